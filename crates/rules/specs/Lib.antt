@@ -1,0 +1,13 @@
+pub mod Lists
+pub mod TableText
+pub mod Answers
+pub mod Refusals
+pub mod Valid
+pub mod Plan
+pub mod Cycles
+pub mod Costs
+pub mod Listing
+pub mod Bytes
+pub mod Case
+pub mod Sheet
+pub mod Cases

@@ -1,0 +1,124 @@
+// The things that document 01 speaks of: a table's records, and the answer of each call.
+// What is right is in specs/; here are only the shapes.
+ghost use mathlib.Core.Path.{_≡_};
+ghost use Rattle.rules.specs.Answers.{numberOf};
+
+// How many speeds, jobs and holds a table has places for.
+pub const MOST_SPEEDS: usize = 16;
+
+pub const MOST_JOBS: usize = 64;
+
+pub const MOST_HOLDS: usize = 32;
+
+// An F line.
+pub struct Speed {
+    pub mhz: u64,
+    pub cost: u64,
+}
+
+// A J line.
+pub struct Job {
+    pub number: u64,
+    pub cycles: u64,
+    pub worth: u64,
+    pub critical: u64,
+    pub termination: u64,
+    pub request: u64,
+}
+
+// An H line.
+pub struct Hold {
+    pub resource: u64,
+    pub holder: u64,
+}
+
+// A whole table: the T line, and of each other letter the first so many places. It may hold anything; which tables are
+// valid is a definition of specs/.
+pub struct Table {
+    pub clock: u64,
+    pub budget: u64,
+    pub speed_count: usize,
+    pub job_count: usize,
+    pub hold_count: usize,
+    pub speeds: [Speed; MOST_SPEEDS],
+    pub jobs: [Job; MOST_JOBS],
+    pub holds: [Hold; MOST_HOLDS],
+}
+
+// What a refusal says, in the order of its numbers, from 1.
+pub enum Refusal {
+    Shape,
+    Range,
+    Order,
+    TooMany,
+    CriticalAfterTermination,
+    UnknownJob,
+    OwnRequest,
+    Room,
+    Model,
+    Allocation,
+}
+
+// The one place where code turns a refusal into its number.
+pub fn number_of(refusal: Refusal) -> u64
+    ensures { λ r. ⌜ r ≡ numberOf refusal ⌝ }
+{
+    match refusal {
+        Refusal::Shape => 1,
+        Refusal::Range => 2,
+        Refusal::Order => 3,
+        Refusal::TooMany => 4,
+        Refusal::CriticalAfterTermination => 5,
+        Refusal::UnknownJob => 6,
+        Refusal::OwnRequest => 7,
+        Refusal::Room => 8,
+        Refusal::Model => 9,
+        Refusal::Allocation => 10,
+    }
+}
+
+// A field is either a number or the refusal of its line.
+pub enum Field {
+    Number(u64),
+    Refused(Refusal, u64),
+}
+
+// The cycles allocated, or the refusal and its line.
+pub enum Allocated {
+    Cycles(u64),
+    Refused(Refusal, u64),
+}
+
+// What stands beside an answer that is too large for an enum.
+pub enum Verdict {
+    Done,
+    Refused(Refusal, u64),
+}
+
+// A cost model's seven costs; refused: seven zeros.
+pub struct Supplied {
+    pub verdict: Verdict,
+    pub costs: [u64; 7],
+}
+
+// A text's table; refused: the table without records.
+pub struct Reading {
+    pub verdict: Verdict,
+    pub table: Table,
+}
+
+// How many bytes were written to the front of a lent buffer, or the refusal and its line.
+pub enum Written {
+    Length(usize),
+    Refused(Refusal, u64),
+}
+
+// A plan's job count, speed and energy, or the refusal and its line.
+pub enum Decision {
+    Plan {
+        count: usize,
+        speed: u64,
+        energy: u64,
+    },
+    Refused(Refusal, u64),
+}
