@@ -7,7 +7,6 @@ ghost use mathlib.Core.Path.{_≡_};
 ghost use Prim.Native.Nat.{_≤_};
 ghost use Rattle.rules.specs.Answers.{allocatedSays, good};
 ghost use Rattle.rules.specs.Cycles.{allocation, askedInRange, enough};
-ghost use Rattle.rules.specs.Lists.{within};
 ghost use Rattle.rules.specs.TableText.{mostCycles};
 
 // The most cycles, as a mean and as an allocation.
@@ -18,18 +17,12 @@ const MOST_VARIANCE: u64 = 1000000000000;
 // In thousandths.
 const MOST_ASSURANCE: u64 = 999;
 
-fn within(low: u64, high: u64, n: u64) -> bool
-    ensures { λ r. ⌜ r ≡ within low high n ⌝ }
-{
-    low <= n && n <= high
-}
-
 fn in_range(mean: u64, variance: u64, assurance: u64) -> bool
     ensures { λ r. ⌜ r ≡ askedInRange mean variance assurance ⌝ }
 {
-    within(1, MOST_CYCLES, mean)
-        && within(0, MOST_VARIANCE, variance)
-        && within(0, MOST_ASSURANCE, assurance)
+    rules::within(1, MOST_CYCLES, mean)
+        && rules::within(0, MOST_VARIANCE, variance)
+        && rules::within(0, MOST_ASSURANCE, assurance)
 }
 
 // Whether c cycles are enough. In range no product here wraps.

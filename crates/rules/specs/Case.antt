@@ -12,7 +12,7 @@ use Rattle.rules.specs.Costs.{roundedUp}
 use Rattle.rules.specs.Cycles.{allocated, allocation, askedInRange, enough, leastFrom}
 use Rattle.rules.specs.Listing.{fateLine, finish, linesFor, listing, listingOf, orderLine, planLine, planLines, unplanned}
 use Rattle.rules.specs.Lists.{all, joined}
-use Rattle.rules.specs.Plan.{AfterPlanning, after, asksFor, before, begin, awaited, chainOf, course, courseOf, cyclesOf, endsBy, endsInTime, endsLate, energyAt, equal, fateIn, fatesOf, follow, gives, goesBefore, goesRather, holderIn, inPlan, inRunningOrder, inTime, insert, isOf, jobsOf, judge, lateIn, leavesAll, leavesOf, leavesPlan, left, less, member, memberFound, memberNew, memberPlanned, members, numbersOf, onRing, ownFate, planFrom, planOf, planning, qualifies, ratioOf, remove, runsFrom, runsOf, same, speedFor, speedOr, start, staysBelow, leavesItsRing, leavesRing, timely, fateTold, tooDear, tooSmall, topOf, trial, turn, turnOf, turns, waitsFor, waitsLeft, waitsTimely, weightIn, ratioZero}
+use Rattle.rules.specs.Plan.{AfterPlanning, after, asksFor, before, begin, awaited, chainOf, course, courseOf, cyclesOf, endsBy, endsInTime, endsLate, energyAt, equal, fateIn, fatesOf, follow, gives, goesBefore, goesRather, holderIn, inPlan, inRunningOrder, inTime, insert, isOf, jobsOf, judge, lateIn, leavesAll, leavesOf, leavesPlan, left, less, member, memberFound, memberNew, memberPlanned, members, numbersOf, onRing, ownFate, partOf, planFrom, planOf, planning, qualifies, ratioOf, remove, runsFrom, runsOf, same, speedFor, speedOr, start, staysBelow, leavesItsRing, leavesRing, timely, fateTold, tooDear, tooSmall, topOf, trial, turn, turnOf, turns, waitsFor, waitsLeft, waitsTimely, weightIn, ratioZero}
 use Rattle.rules.specs.Refusals.{AfterWriting, Before, Item, Judged, Taken, accept, accepted, added, andThen, asksOwn, atEnd, beyond, check, criticalAfter, faultOf, holdItems, isHolder, itemsIn, itemShaped, itemsOf, jobItems, judged, mayStand, nothing, outOfOrder, outOfRange, ownRequest, read, reading, refusedAt, refusedFor, refusedOut, rises, speedItems, takeFrom, taken, tableAnswer, tooMany, unknownJob, writing, written, writtenOf}
 use Rattle.rules.specs.TableText.{andMore, digitsOf, digitsWithin, fieldsOf, fieldsRecord, inRange, isBudget, isCost, isCycles, isDigit, isJobNumber, isMhz, isNumber, isRequest, isResource, isTime, isWorth, leadingZero, lineText, lined, linesOf, noRecords, numberIn, numbersIn, ontoFirst, partedBy, recordOf, recordText, recordsOf, shapeOf, tableOf, textOf, valueFrom, withNumbers}
 use Rattle.rules.specs.declared.Hold.{Hold}
@@ -45,11 +45,12 @@ pub record Writing : Type 0 where
   pub answer : Answer
   pub after : String
 
--- a text, an order and a fate buffer, and what planning leaves
+-- a text, an order and a fate buffer, and the part that planning hands back and what it leaves
 pub record Planning : Type 0 where
   pub text : String
   pub order : List ℕ
   pub fates : List ℕ
+  pub part : List ℕ
   pub after : AfterPlanning
 
 pub data Case : Type 0 where
@@ -116,7 +117,7 @@ samePlanning a b = sameAnswer (a .answer) (b .answer) && alike (a .order) (b .or
 
 -- the rules give what the case wants; every rule opens here
 unfoldable pub right : Case → Bool
-unfolding bytes charAmong shown numberThen numbersFrom judgedIn numberAndLine checkedIn placesOf readIn ontoFirst partedBy linesOf fieldsOf isDigit leadingZero isNumber valueFrom numberIn andMore numbersIn recordOf withNumbers fieldsRecord shapeOf isTime isBudget isMhz isCost isJobNumber isCycles isWorth isResource isRequest inRange noRecords recordsOf tableOf digitsWithin digitsOf lineText recordText lined textOf nothing itemShaped itemsIn outOfRange mayStand rises outOfOrder tooMany criticalAfter isHolder unknownJob asksOwn ownRequest faultOf added judged accept atEnd andThen takeFrom read beyond speedItems jobItems holdItems itemsOf check tableAnswer reading refusedOut written writtenOf writing topOf endsBy cyclesOf runsFrom runsOf endsInTime same less equal lateIn timely asksFor holderIn waitsFor follow awaited weightIn goesRather onRing leavesRing waitsTimely leavesItsRing left waitsLeft chainOf inRunningOrder gives ratioOf turnOf before turns jobsOf isOf inPlan goesBefore insert remove staysBelow memberPlanned memberNew memberFound member members begin trial inTime endsLate tooDear judge ratioZero turn after course start courseOf fateTold ownFate fateIn energyAt qualifies speedOr speedFor planFrom planOf numbersOf fatesOf leavesPlan leavesAll leavesOf tooSmall planning askedInRange enough leastFrom allocated allocation roundedUp finish planLine orderLine unplanned fateLine planLines linesFor listingOf listing
+unfolding bytes charAmong shown numberThen numbersFrom judgedIn numberAndLine checkedIn placesOf readIn ontoFirst partedBy linesOf fieldsOf isDigit leadingZero isNumber valueFrom numberIn andMore numbersIn recordOf withNumbers fieldsRecord shapeOf isTime isBudget isMhz isCost isJobNumber isCycles isWorth isResource isRequest inRange noRecords recordsOf tableOf digitsWithin digitsOf lineText recordText lined textOf nothing itemShaped itemsIn outOfRange mayStand rises outOfOrder tooMany criticalAfter isHolder unknownJob asksOwn ownRequest faultOf added judged accept atEnd andThen takeFrom read beyond speedItems jobItems holdItems itemsOf check tableAnswer reading refusedOut written writtenOf writing topOf endsBy cyclesOf runsFrom runsOf endsInTime same less equal lateIn timely asksFor holderIn waitsFor follow awaited weightIn goesRather onRing leavesRing waitsTimely leavesItsRing left waitsLeft chainOf inRunningOrder gives ratioOf turnOf before turns jobsOf isOf inPlan goesBefore insert remove staysBelow memberPlanned memberNew memberFound member members begin trial inTime endsLate tooDear judge ratioZero turn after course start courseOf fateTold ownFate fateIn energyAt qualifies speedOr speedFor planFrom planOf numbersOf fatesOf leavesPlan partOf leavesAll leavesOf tooSmall planning askedInRange enough leastFrom allocated allocation roundedUp finish planLine orderLine unplanned fateLine planLines linesFor listingOf listing
 right (lists text want) = alike (listingOf (bytes text)) (bytes want)
 right (allocates mean variance assurance want) = sameAnswer (allocation mean variance assurance) want
 right (judges js) = alike (judgedIn js) (map (λ (j : Judging). j .number) js)
@@ -124,7 +125,11 @@ right (checks cs) = all (λ (c : Checking). alike (checkedIn c) (c .number ∷ c
 right (reads rs) = all (λ (r : Reads). alike (readIn r) (r .number ∷ r .line ∷ r .table)) rs
 right (writes ws) =
     all (λ (w : Writing). let o = writing (w .table) (bytes (w .out)) in sameAnswer (o .answer) (w .answer) && alike (o .out) (bytes (w .after))) ws
-right (plans ps) = all (λ (p : Planning). samePlanning (planning (bytes (p .text)) (p .order) (p .fates)) (p .after)) ps
+right (plans ps) =
+    all
+    (λ (p : Planning).
+    let a = planning (bytes (p .text)) (p .order) (p .fates) in samePlanning a (p .after) && alike (partOf a) (p .part))
+    ps
 
 unfoldable pub given : Case → Given
 given (lists text want) = listed (shown (listingOf (bytes text)))

@@ -4,15 +4,17 @@ use mathlib.Core.List.{List, [], _∷_, _++_, map}
 use Prim.Native.Nat.{ℕ, zero, suc, _+_, _*_}
 use Prim.Native.String.{String}
 use lib.ListN.{replicate}
-use Rattle.rules.specs.Answers.{good, refused}
+use Rattle.rules.specs.Answers.{decisionSays, writtenSays}
 use Rattle.rules.specs.Bytes.{bytes}
 use Rattle.rules.specs.Case.{AllRight, Case, Checking, Judging, checks, judges, lists, plans, reads, writes, wrong}
 use Rattle.rules.specs.TableText.{Record, recordText, tableOf}
+use Rattle.rules.specs.declared.Decision.{Decision}
 use Rattle.rules.specs.declared.Job.{Job}
 use Rattle.rules.specs.declared.Hold.{Hold}
 use Rattle.rules.specs.declared.Refusal.{Refusal}
 use Rattle.rules.specs.declared.Speed.{Speed}
 use Rattle.rules.specs.declared.Table.{Table}
+use Rattle.rules.specs.declared.Written.{Written}
 
 -- a line, and the number that it gets
 abbrev line : String → ℕ → Judging
@@ -76,9 +78,9 @@ cases =
     -- Job 1 ends late after 3, so that its chain gives nothing. The late job 2 holds what 3 asks for: 3 waits for nobody.
     ∷ lists "T\t100\t10000\nF\t500\t12\nF\t800\t9\nF\t1000\t10\nJ\t1\t500\t20\t0\t800\t3\nJ\t2\t400\t1\t0\t200\t3\nJ\t3\t300\t0\t200\t1200\t2\nH\t1\t3\nH\t2\t2\nH\t3\t3\nH\t4\t3\n"
     "P\t500\t0\t0\nX\t1\t4\nX\t2\t2\nX\t3\t4\n"
-    -- A ring of 1 and 3 of equal worth: 1 has more cycles, and goes.
-    ∷ lists "T\t1000\t8000\nF\t500\t12\nF\t800\t9\nF\t1000\t10\nJ\t1\t500\t5\t2600\t2600\t2\nJ\t2\t400\t20\t2900\t3100\t3\nJ\t3\t100\t5\t2900\t2900\t4\nH\t1\t3\nH\t2\t3\nH\t4\t1\n"
-    "P\t500\t6000\t2\nO\t3\t1200\nO\t2\t2000\nX\t1\t3\n"
+    -- A ring of 1000 and 3000 of equal worth: 1000 has more cycles, and goes. Then 2000 and 3000 have equal ratios.
+    ∷ lists "T\t1000\t8000\nF\t500\t12\nF\t800\t9\nF\t1000\t10\nJ\t1000\t500\t5\t20000\t20000\t2\nJ\t2000\t400\t20\t2900\t3100\t3\nJ\t3000\t100\t5\t2900\t2900\t4\nH\t1\t3000\nH\t2\t3000\nH\t4\t1000\n"
+    "P\t500\t6000\t2\nO\t3000\t1200\nO\t2000\t2000\nX\t1000\t3\n"
     -- A new member lowers the limit to its critical time; a member that is moved takes the limit as its key.
     ∷ lists "T\t700\t12000\nF\t500\t7\nF\t1000\t10\nJ\t1\t200\t0\t700\t1700\t4\nJ\t2\t100\t20\t2600\t2800\t1\nJ\t3\t200\t1\t100\t1100\t4\nJ\t4\t100\t2\t1400\t1400\t2\nJ\t5\t100\t20\t900\t900\t0\nH\t1\t3\nH\t2\t3\nH\t3\t1\nH\t4\t5\n"
     "P\t1000\t7000\t5\nO\t5\t800\nO\t3\t1000\nO\t1\t1200\nO\t4\t1300\nO\t2\t1400\n"
@@ -159,15 +161,15 @@ cases =
     ∷ [])
     -- The text is the front of the buffer; room for it exactly, and a byte too little.
     ∷ writes
-    (record { table = counted 1 0 0 1 0 0; out = "xxxxxxxxxxxxxx"; answer = good (12 ∷ []); after = "T\t7\t9\nF\t1\t1\nxx" }
+    (record { table = counted 1 0 0 1 0 0; out = "xxxxxxxxxxxxxx"; answer = writtenSays (Written.Length 12); after = "T\t7\t9\nF\t1\t1\nxx" }
     ∷ record {
       table = tableOf (record { clock = 7; budget = 9; speeds = record { mhz = 3; cost = 4 } ∷ []; jobs = one ∷ []; holds = record { resource = 7; holder = 1 } ∷ [] });
       out = "xxxxxxxxxxxxxxxxxxxxxxxxxxxxxxxx";
-      answer = good (32 ∷ []);
+      answer = writtenSays (Written.Length 32);
       after = "T\t7\t9\nF\t3\t4\nJ\t1\t2\t3\t4\t5\t6\nH\t7\t1\n";
     }
-    ∷ record { table = counted 1 0 0 1 0 0; out = "xxxxxxxxxxx"; answer = refused Refusal.Room 0 (0 ∷ []); after = "xxxxxxxxxxx" }
-    ∷ record { table = counted 1 0 0 0 0 0; out = "x"; answer = refused Refusal.Order 2 (0 ∷ []); after = "x" }
+    ∷ record { table = counted 1 0 0 1 0 0; out = "xxxxxxxxxxx"; answer = writtenSays (Written.Refused Refusal.Room 0); after = "xxxxxxxxxxx" }
+    ∷ record { table = counted 1 0 0 0 0 0; out = "x"; answer = writtenSays (Written.Refused Refusal.Order 2); after = "x" }
     ∷ [])
     -- The buffers: zeros to the end, of long ones too; too small and refused: as they were.
     ∷ plans
@@ -175,9 +177,10 @@ cases =
       text = five;
       order = replicate 64 8;
       fates = replicate 66 9;
+      part = 5 ∷ 4 ∷ [];
       after =
           record {
-            answer = good (2 ∷ 800 ∷ 4500 ∷ []);
+            answer = decisionSays (Decision.Plan 2 800 4500);
             order = 5 ∷ 4 ∷ replicate 62 0;
             fates = 2 ∷ 5 ∷ 6 ∷ 1 ∷ 1 ∷ replicate 61 0;
           };
@@ -186,19 +189,22 @@ cases =
       text = five;
       order = replicate 63 8;
       fates = replicate 64 9;
-      after = record { answer = refused Refusal.Room 0 (0 ∷ 0 ∷ 0 ∷ []); order = replicate 63 8; fates = replicate 64 9 };
+      part = [];
+      after = record { answer = decisionSays (Decision.Refused Refusal.Room 0); order = replicate 63 8; fates = replicate 64 9 };
     }
     ∷ record {
       text = five;
       order = replicate 64 8;
       fates = replicate 63 9;
-      after = record { answer = refused Refusal.Room 0 (0 ∷ 0 ∷ 0 ∷ []); order = replicate 64 8; fates = replicate 63 9 };
+      part = [];
+      after = record { answer = decisionSays (Decision.Refused Refusal.Room 0); order = replicate 64 8; fates = replicate 63 9 };
     }
     ∷ record {
       text = "T\t0\t0\nF\t1\t0\n";
       order = replicate 64 8;
       fates = replicate 64 9;
-      after = record { answer = refused Refusal.Range 2 (0 ∷ 0 ∷ 0 ∷ []); order = replicate 64 8; fates = replicate 64 9 };
+      part = [];
+      after = record { answer = decisionSays (Decision.Refused Refusal.Range 2); order = replicate 64 8; fates = replicate 64 9 };
     }
     ∷ [])
     -- The reader's table: 0 in every unused place; refused, 0 in every place.

@@ -9,7 +9,7 @@ use lib.Dec.{leb}
 abbrev pub within : ℕ → ℕ → ℕ → Bool
 within low high n = leb low n && leb n high
 
-infixr 5 _and_
+infixr 5 _and_ _below_
 module _ {A : Type 0} where
   -- the value where the test holds
   abbrev pub onlyIf : Bool → A → Option A

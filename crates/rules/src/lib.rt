@@ -2,6 +2,7 @@
 // What is right is in specs/; here are only the shapes.
 ghost use mathlib.Core.Path.{_≡_};
 ghost use Rattle.rules.specs.Answers.{numberOf};
+ghost use Rattle.rules.specs.Lists.{within};
 
 // How many speeds, jobs and holds a table has places for.
 pub const MOST_SPEEDS: usize = 16;
@@ -9,6 +10,13 @@ pub const MOST_SPEEDS: usize = 16;
 pub const MOST_JOBS: usize = 64;
 
 pub const MOST_HOLDS: usize = 32;
+
+// The test that every range is: from low to high, both counted in.
+pub fn within(low: u64, high: u64, n: u64) -> bool
+    ensures { λ r. ⌜ r ≡ within low high n ⌝ }
+{
+    low <= n && n <= high
+}
 
 // An F line.
 pub struct Speed {

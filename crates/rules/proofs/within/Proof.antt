@@ -1,7 +1,7 @@
--- `cycles::within` meets its contract: it computes the rules' test, side by side. Assumes nothing.
+-- `rules::within` meets its contract: it computes the rules' test, side by side. Assumes nothing.
 use borrow.Author.Tests.{le-leb, lt-leb}
-use Rattle.cycles.proofs.within.Statement.{statement}
-use Rattle.cycles.proofs.within.Tie as tie
+use Rattle.rules.proofs.within.Statement.{statement}
+use Rattle.rules.proofs.within.Tie as tie
 
 returns : tie.Need-returns
 returns c = rw (le-leb (c .before .args .low) (c .before .args .n) (c .if1 .taken))

@@ -1,0 +1,3 @@
+pub mod Stored
+pub mod Entries
+pub mod Ranges

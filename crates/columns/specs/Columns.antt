@@ -1,0 +1,45 @@
+-- How the code's columns, places and keys stand for the rules' lists: a job is known by its place in the table, and
+-- each of its fields stands at that place of the field's column.
+use mathlib.Core.List.{List, [], _∷_, map}
+use mathlib.Core.Path.{_≡_}
+use Prim.Native.Nat.{ℕ, _≤_, _<_}
+use lib.ListN.{getD, length, set}
+use Rattle.columns.specs.declared.Columns.{Columns}
+use Rattle.rules.specs.Plan.{Entry}
+use Rattle.rules.specs.TableText.{noJob}
+use Rattle.rules.specs.declared.Job.{Job}
+
+-- at each place the field of the job there, and 0 beyond the jobs
+abbrev pub Column : (Job → ℕ) → List Job → List ℕ → Type 0
+Column f js c = (i : ℕ) → getD c i 0 ≡ f (getD js i noJob)
+
+-- a column for each field of the jobs
+pub record ColumnsOf (js : List Job) (c : Columns) : Type 0 where
+  pub number : Column (λ j. j .number) js (c .number)
+  pub cycles : Column (λ j. j .cycles) js (c .cycles)
+  pub worth : Column (λ j. j .worth) js (c .worth)
+  pub critical : Column (λ j. j .critical) js (c .critical)
+  pub termination : Column (λ j. j .termination) js (c .termination)
+  pub request : Column (λ j. j .request) js (c .request)
+
+-- the jobs at these places
+abbrev pub jobsAt : List Job → List ℕ → List Job
+jobsAt js ps = map (λ p. getD js p noJob) ps
+
+-- the job at a place, with a key
+abbrev pub entryAt : List Job → ℕ → ℕ → Entry
+entryAt js p k = record { job = getD js p noJob; key = k }
+
+-- the entries that places and keys side by side stand for
+abbrev pub entriesIn : List Job → List ℕ → List ℕ → List Entry
+entriesIn js [] ks = []
+entriesIn js (p ∷ ps) [] = []
+entriesIn js (p ∷ ps) (k ∷ ks) = entryAt js p k ∷ entriesIn js ps ks
+
+-- each element is below n
+abbrev pub AllBelow : ℕ → List ℕ → Type 0
+AllBelow n xs = (i : ℕ) → i < length xs → getD xs i 0 < n
+
+-- each element is at most b
+abbrev pub AtMost : ℕ → List ℕ → Type 0
+AtMost b xs = (i : ℕ) → getD xs i 0 ≤ b

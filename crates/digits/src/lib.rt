@@ -1,0 +1,78 @@
+// Numbers and whole lines, written as bytes into a lent buffer.
+ghost use mathlib.Core.Path.{_≡_};
+ghost use Prim.Native.Nat.{ℕ, _+_, _≤_};
+ghost use lib.ListN.{length};
+ghost use Rattle.laws.specs.Put.{put};
+ghost use Rattle.rules.specs.TableText.{digitsOf, lineText};
+
+// How many digits a number has.
+pub fn width(n: u64) -> usize
+    ensures { λ r. ⌜ r ≡ length (digitsOf n) ⌝ }
+{
+    let mut rest = n;
+    let mut count: usize = 1;
+    while 10 <= rest {
+        rest = rest / 10;
+        count += 1;
+    }
+    count
+}
+
+// Fills a part with the digits of a number, from the last to the first. The digit 0 is byte 48.
+fn fill(part: &mut [u8], n: u64)
+    requires { ⌜ length (now part) ≡ length (digitsOf n) ⌝ }
+    ensures { λ _. ⌜ now (part .exit) ≡ digitsOf n ⌝ }
+{
+    let mut rest = n;
+    let mut left = part.len();
+    while 0 < left {
+        let place = left - 1;
+        part[place] = (48 + rest % 10) as u8;
+        rest = rest / 10;
+        left = place;
+    }
+}
+
+// Writes the digits of a number at a place, and hands back the place behind them.
+pub fn put_number(out: &mut [u8], at: usize, n: u64) -> usize
+    requires { ⌜ at + length (digitsOf n) ≤ length (now out) ⌝ }
+    ensures { λ r. ⌜ (r ≡ at + length (digitsOf n)) × (now (out .exit) ≡ put (now (out .entry)) at (digitsOf n)) ⌝ }
+{
+    let end = at + width(n);
+    fill(&mut out[at..end], n);
+    end
+}
+
+// How many bytes a line of these numbers has, whatever its letter. No line has more than six.
+pub fn line_length(numbers: &[u64]) -> usize
+    requires { ⌜ length (now numbers) ≤ 6 ⌝ }
+    ensures { λ r. ⌜ ((letter : ℕ) → r ≡ length (lineText letter (now (numbers .entry)))) ⌝ }
+{
+    let mut bytes: usize = 2;
+    let mut counted = 0;
+    while counted < numbers.len() {
+        bytes += 1 + width(numbers[counted]);
+        counted += 1;
+    }
+    bytes
+}
+
+// Writes a line at a place, its letter, each number behind a tab, the line feed, and hands back the place behind it.
+pub fn put_line(out: &mut [u8], at: usize, letter: u8, numbers: &[u64]) -> usize
+    requires { ⌜ at + length (lineText letter (now numbers)) ≤ length (now out) ⌝ }
+    ensures { λ r. ⌜
+        (r ≡ at + length (lineText letter (now (numbers .entry))))
+        × (now (out .exit) ≡ put (now (out .entry)) at (lineText letter (now (numbers .entry))))
+        ⌝ }
+{
+    out[at] = letter;
+    let mut next = at + 1;
+    let mut written = 0;
+    while written < numbers.len() {
+        out[next] = b'\t';
+        next = put_number(out, next + 1, numbers[written]);
+        written += 1;
+    }
+    out[next] = b'\n';
+    next + 1
+}

@@ -1,0 +1,4 @@
+pub mod Searches
+pub mod Moved
+pub mod Entries
+pub mod Found

@@ -1,0 +1,67 @@
+-- What a record's ranges say of its numbers: the test is one of each number between two others. Assumes nothing.
+use mathlib.Core.Bool.{true}
+use mathlib.Core.Path.{_≡_}
+use Prim.Native.Nat.{ℕ, _^_, _≤_}
+use Rattle.laws.proofs.Tests.{both-true, within-true}
+use Rattle.rules.specs.TableText.{Record, inRange, isBudget, isCost, isCycles, isJobNumber, isMhz, isRequest, isResource, isTime, isWorth, mostCycles}
+use Rattle.rules.specs.declared.Speed.{Speed}
+use Rattle.rules.specs.declared.Job.{Job}
+use Rattle.rules.specs.declared.Hold.{Hold}
+
+pub clock-ranges : (clock budget : ℕ) → inRange (Record.T clock budget) ≡ true → (clock ≤ 1000000000) × (budget ≤ 10 ^ 15)
+unfolding inRange isTime isBudget
+clock-ranges clock budget e =
+    let both = both-true (isTime clock) (isBudget budget) e in
+    (within-true 0 1000000000 clock (both .0) .1, within-true 0 (10 ^ 15) budget (both .1) .1)
+
+pub record SpeedRanges (f : Speed) : Type 0 where
+  pub mhz-from : 1 ≤ f .mhz
+  pub mhz-to : f .mhz ≤ 4000
+  pub cost-to : f .cost ≤ 4000000
+
+pub speed-ranges : (f : Speed) → inRange (Record.F f) ≡ true → SpeedRanges f
+unfolding inRange isMhz isCost
+speed-ranges f e =
+    let both = both-true (isMhz (f .mhz)) (isCost (f .cost)) e in
+    let speed = within-true 1 4000 (f .mhz) (both .0) in
+    record { mhz-from = speed .0; mhz-to = speed .1; cost-to = within-true 1 4000000 (f .cost) (both .1) .1 }
+
+pub record JobRanges (j : Job) : Type 0 where
+  pub number-from : 1 ≤ j .number
+  pub number-to : j .number ≤ 9999
+  pub cycles-to : j .cycles ≤ mostCycles
+  pub worth-to : j .worth ≤ 1000000
+  pub critical-to : j .critical ≤ 1000000000
+  pub termination-to : j .termination ≤ 1000000000
+  pub request-to : j .request ≤ 32
+
+pub job-ranges : (j : Job) → inRange (Record.J j) ≡ true → JobRanges j
+unfolding inRange isJobNumber isCycles isWorth isTime isRequest
+job-ranges j e =
+    let six = both-true _ (isRequest (j .request)) e in
+    let five = both-true _ (isTime (j .termination)) (six .0) in
+    let four = both-true _ (isTime (j .critical)) (five .0) in
+    let three = both-true _ (isWorth (j .worth)) (four .0) in
+    let two = both-true (isJobNumber (j .number)) (isCycles (j .cycles)) (three .0) in
+    let number = within-true 1 9999 (j .number) (two .0) in
+    record {
+      number-from = number .0;
+      number-to = number .1;
+      cycles-to = within-true 1 mostCycles (j .cycles) (two .1) .1;
+      worth-to = within-true 0 1000000 (j .worth) (three .1) .1;
+      critical-to = within-true 0 1000000000 (j .critical) (four .1) .1;
+      termination-to = within-true 0 1000000000 (j .termination) (five .1) .1;
+      request-to = within-true 0 32 (j .request) (six .1) .1;
+    }
+
+pub record HoldRanges (h : Hold) : Type 0 where
+  pub resource-from : 1 ≤ h .resource
+  pub resource-to : h .resource ≤ 32
+  pub holder-to : h .holder ≤ 9999
+
+pub hold-ranges : (h : Hold) → inRange (Record.H h) ≡ true → HoldRanges h
+unfolding inRange isResource isJobNumber
+hold-ranges h e =
+    let both = both-true (isResource (h .resource)) (isJobNumber (h .holder)) e in
+    let resource = within-true 1 32 (h .resource) (both .0) in
+    record { resource-from = resource .0; resource-to = resource .1; holder-to = within-true 1 9999 (h .holder) (both .1) .1 }

@@ -1,0 +1,4 @@
+pub mod SoFar
+pub mod OneMore
+pub mod Ends
+pub mod Unique

@@ -1,0 +1,127 @@
+-- What holds whenever the reader is about to look at a line: the text is what its records so far and the rest of it come
+-- to, and what it has stored and noted are those records. One line more keeps that true, whichever letter it has. Assumes
+-- nothing.
+use mathlib.Core.Bool.{Bool, true, false}
+use mathlib.Core.List.{List, [], _∷_, _++_, append-assoc}
+use mathlib.Core.Path.{_≡_, refl, sym, ap, _∙_}
+use Prim.Native.Nat.{ℕ, zero, suc, _+_, _-_, _≤_, _<_}
+use native.Mathlib.Numerals.{add-one}
+use native.Mathlib.Omega.{arith}
+use lib.ListN.{length, drop, getD, set, replicate, length-append, length-drop, length-set}
+use lib.Seq.{append-snoc, set-at}
+use Rattle.columns.specs.Columns.{Column}
+use Rattle.laws.proofs.Accepted.{Standing as Reachable, clock-read, nothing-read, reached-standing, valid}
+use Rattle.laws.proofs.Elements.{length-more}
+use Rattle.laws.proofs.Lines.{items, rest-shorter}
+use Rattle.laws.proofs.Stopped.{Reached, after, at-once}
+use Rattle.laws.proofs.Trips.{valid-few-holds}
+use Rattle.laws.specs.FirstLine.{firstItem, restOf}
+use Rattle.records.proofs.After.{clock-after, hold-after, job-after, speed-after}
+use Rattle.records.specs.Standing.{afterClock, afterHold, afterJob, afterSpeed, standingOf}
+use Rattle.records.specs.declared.Standing.{Standing}
+use Rattle.rules.specs.Lists.{Rising, no-element}
+use Rattle.rules.specs.Refusals.{Before, accept, accepted, added, andThen, itemsIn, nothing, read, takeFrom}
+use Rattle.rules.specs.TableText.{Record, Records, linesOf, mostHolds, mostJobs, mostSpeeds, noHold, noJob, noRecords, noSpeed, padded}
+use Rattle.rules.specs.declared.Hold.{Hold}
+use Rattle.rules.specs.declared.Job.{Job}
+use Rattle.rules.specs.declared.Speed.{Speed}
+use Rattle.rules.specs.declared.Table.{Table}
+use Rattle.text.specs.Lines.{isRefused}
+use Rattle.text.specs.declared.Cursor.{Cursor}
+use Rattle.text.specs.declared.Line.{Line}
+use Rattle.text.specs.declared.Parsed.{Parsed}
+use Rattle.lines.specs.Step.{LineAccepted, Noted, judgedAs, withMore}
+
+-- the records in their places; the counts come last
+abbrev pub stored : Records → Table
+stored r = record {
+  clock = r .clock;
+  budget = r .budget;
+  «speed_count» = 0;
+  «job_count» = 0;
+  «hold_count» = 0;
+  speeds = padded mostSpeeds noSpeed (r .speeds);
+  jobs = padded mostJobs noJob (r .jobs);
+  holds = padded mostHolds noHold (r .holds);
+}
+
+abbrev pub begunWith : Standing → Records → Before
+begunWith s r = record { begun = s .begun; records = r }
+
+pub record SoFar (text : List ℕ) (table : Table) (numbers requests : List ℕ) (before : Standing) (place : Cursor) : Type 0 where
+  pub records : Records
+  pub lines : List Record
+  pub in-places : table ≡ stored records
+  pub reached : Reachable (begunWith before records) lines
+  pub noted : Noted (begunWith before records) before numbers requests
+  pub numbers-whole : length numbers ≡ mostJobs
+  pub requests-whole : length requests ≡ mostJobs
+  pub to-read : read text ≡ takeFrom (place .line) (begunWith before records) (itemsIn (linesOf (drop (place .at) text)))
+  pub few-lines : place .line ≤ place .at + 1
+  pub within : place .at ≤ length text
+
+-- the records of any state that is reached fit their places, and their numbers rise
+pub record Fit (b : Before) : Type 0 where
+  pub speeds : length (b .records .speeds) ≤ mostSpeeds
+  pub jobs : length (b .records .jobs) ≤ mostJobs
+  pub holds : length (b .records .holds) ≤ mostHolds
+  pub rising : Rising (λ (j : Job). j .number) (b .records .jobs)
+
+pub fits : {b : Before} {rs : List Record} → Reachable b rs → Fit b
+unfolding nothing noRecords added
+fits nothing-read = record { speeds = omega arith; jobs = omega arith; holds = omega arith; rising = no-element }
+fits (clock-read e) = record { speeds = omega arith; jobs = omega arith; holds = omega arith; rising = no-element }
+fits (valid {r} v) = record { speeds = v .few-speeds; jobs = v .few-jobs; holds = valid-few-holds v; rising = v .jobs-rise }
+
+-- one more in the first free place
+pub one-more-padded : {A : Type 0} (places : ℕ) (d x : A) (xs : List A) → length xs < places
+    → set (padded places d xs) (length xs) x ≡ padded places d (xs ++ x ∷ [])
+one-more-padded places d x xs h =
+    let more : places - length xs ≡ suc (places - (length xs + 1)) = omega arith in
+    rw more
+    (set-at xs d (replicate (places - (length xs + 1)) d) x (length xs) refl
+    ∙ rw (length-more xs x, append-snoc xs x (replicate (places - (length xs + 1)) d)))
+
+-- one job more in a column
+pub one-more-column : (f : Job → ℕ) (js : List Job) (j : Job) (c : List ℕ) → length js < length c → Column f js c
+    → Column f (js ++ j ∷ []) (set c (length js) (f j))
+one-more-column f js j [] h column k = absurd (omega arith)
+one-more-column f [] j (x ∷ c) h column zero = refl
+one-more-column f [] j (x ∷ c) h column (suc k) = column (suc k)
+one-more-column f (i ∷ js) j (x ∷ c) h column zero = column 0
+one-more-column f (i ∷ js) j (x ∷ c) h column (suc k) = one-more-column f js j c (omega arith) (λ m. column (suc m)) k
+
+module _ (text : List ℕ) (table : Table) (numbers requests : List ℕ) (before : Standing) (place : Cursor)
+    (so-far : SoFar text table numbers requests before place) (inside : place .at < length text) (l : Line)
+    (line : LineAccepted text place (begunWith before (so-far .records)) l) where
+  abbrev here : Before
+  here = begunWith before (so-far .records)
+
+  remains : 0 < length (drop (place .at) text)
+  remains = rw (length-drop (place .at) text) (omega arith)
+
+  -- the reading place moves on with a line that is not refused
+  pub goes-on : isRefused (l .parsed) ≡ false → place .at < l .next .at
+  goes-on good =
+      omega (arith, rest-shorter (drop (place .at) text) remains, ap length (line .rest good), length-drop (place .at) text, length-drop (l .next .at) text)
+
+  -- the reading after the line, where it is accepted
+  pub record Moved (next : Before) : Type 0 where
+    pub lines : List Record
+    pub reached : Reachable next lines
+    pub to-read : read text ≡ takeFrom (place .line + 1) next (itemsIn (linesOf (drop (l .next .at) text)))
+    pub few-lines : place .line + 1 ≤ l .next .at + 1
+    pub within : l .next .at ≤ length text
+
+  pub moved : (next : Before) → isRefused (l .parsed) ≡ false → judgedAs here (l .parsed) ≡ accepted next → Moved next
+  unfolding takeFrom andThen
+  moved next good e =
+      let step : accept here (firstItem (drop (place .at) text)) ≡ accepted next = sym (line .judged) ∙ e in
+      let (rs, same, stands) = reached-standing (so-far .reached) (after step at-once) in
+      record {
+        lines = so-far .lines ++ rs;
+        reached = stands;
+        to-read = so-far .to-read ∙ rw (items (drop (place .at) text) remains) (rw step (rw (← line .rest good)));
+        few-lines = omega (arith, goes-on good);
+        within = line .within good;
+      }

@@ -1,0 +1,3 @@
+pub mod Faults
+pub mod LookedUp
+pub mod After

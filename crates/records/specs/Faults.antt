@@ -1,0 +1,59 @@
+-- The lowest refusal of a record, by its letter, from the state of what stands before it.
+use mathlib.Core.Bool.{Bool, cond, not, _||_}
+use mathlib.Core.Option.{Option, none, some}
+use mathlib.Core.List.{List}
+use Prim.Native.Nat.{ℕ}
+use lib.Dec.{leb, ltb, eqb}
+use Rattle.rules.specs.Lists.{find}
+use Rattle.rules.specs.Refusals.{criticalAfter}
+use Rattle.rules.specs.TableText.{Record, inRange, mostJobs, mostSpeeds}
+use Rattle.rules.specs.declared.Hold.{Hold}
+use Rattle.rules.specs.declared.Job.{Job}
+use Rattle.rules.specs.declared.Refusal.{Refusal}
+use Rattle.rules.specs.declared.Speed.{Speed}
+use Rattle.records.specs.declared.Holder.{Holder}
+use Rattle.records.specs.declared.Judgement.{Judgement}
+use Rattle.records.specs.declared.Standing.{Standing}
+
+-- a judgement as the refusal that it names
+abbrev pub faultSays : Judgement → Option Refusal
+faultSays Judgement.Good = none
+faultSays (Judgement.Bad r) = some r
+
+abbrev pub firstOf : Bool → Refusal → Option Refusal → Option Refusal
+firstOf t r others = cond t (some r) others
+
+unfoldable pub clockFault : Standing → ℕ → ℕ → Option Refusal
+clockFault s clock budget =
+    firstOf (not (inRange (Record.T clock budget))) Refusal.Range (firstOf (s .begun) Refusal.Order none)
+
+unfoldable pub speedFault : Standing → Speed → Option Refusal
+speedFault s f =
+    firstOf (not (inRange (Record.F f))) Refusal.Range
+    (firstOf (not (s .begun) || not (eqb (s .jobs) 0) || not (ltb (s .mhz) (f .mhz))) Refusal.Order
+    (firstOf (leb mostSpeeds (s .speeds)) Refusal.TooMany none))
+
+unfoldable pub jobFault : Standing → Job → Option Refusal
+jobFault s j =
+    firstOf (not (inRange (Record.J j))) Refusal.Range
+    (firstOf (eqb (s .speeds) 0 || not (eqb (s .holds) 0) || not (ltb (s .number) (j .number))) Refusal.Order
+    (firstOf (leb mostJobs (s .jobs)) Refusal.TooMany
+    (firstOf (ltb (j .termination) (j .critical)) Refusal.CriticalAfterTermination none)))
+
+-- what the holder's request says: unknown, its own resource, or nothing
+abbrev pub holderFault : Holder → Hold → Option Refusal
+holderFault Holder.Unknown h = some Refusal.UnknownJob
+holderFault (Holder.Requests request) h = firstOf (eqb request (h .resource)) Refusal.OwnRequest none
+
+-- the job of a number among those of the table
+abbrev pub asHolder : Option Job → Holder
+asHolder none = Holder.Unknown
+asHolder (some j) = Holder.Requests (j .request)
+
+unfoldable pub lookedUp : List Job → ℕ → Holder
+lookedUp js number = asHolder (find (λ j. eqb (j .number) number) js)
+
+unfoldable pub holdFault : Standing → Hold → Holder → Option Refusal
+holdFault s h holder =
+    firstOf (not (inRange (Record.H h))) Refusal.Range
+    (firstOf (eqb (s .jobs) 0 || not (ltb (s .resource) (h .resource))) Refusal.Order (holderFault holder h))

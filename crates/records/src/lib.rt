@@ -1,0 +1,264 @@
+// The judgement of one record, from its numbers and a small state of what stands before it: refusals 2 to 7.
+use rules::Hold;
+use rules::Job;
+use rules::MOST_JOBS;
+use rules::Refusal;
+use rules::Speed;
+ghost use mathlib.Core.List.{List};
+ghost use mathlib.Core.Path.{_≡_};
+ghost use Prim.Native.Nat.{_≤_};
+ghost use lib.ListN.{length};
+ghost use Rattle.columns.specs.Columns.{Column};
+ghost use Rattle.rules.specs.TableText.{Record, inRange, mostHolds, mostJobs, mostSpeeds};
+ghost use Rattle.rules.specs.declared.Job.{Job};
+ghost use Rattle.records.specs.Faults.{clockFault, speedFault, jobFault, holdFault, faultSays, lookedUp};
+ghost use Rattle.records.specs.Standing.{noneStanding, afterClock, afterSpeed, afterJob, afterHold};
+
+const MOST_TIME: u64 = 1000000000;
+
+const MOST_BUDGET: u64 = 1000000000000000;
+
+const MOST_MHZ: u64 = 4000;
+
+const MOST_COST: u64 = 4000000;
+
+const MOST_NUMBER: u64 = 9999;
+
+const MOST_CYCLES: u64 = 1000000;
+
+const MOST_WORTH: u64 = 1000000;
+
+const MOST_RESOURCE: u64 = 32;
+
+// What stands before a line: whether the T does, how many of each other letter, and the first number of the last of each
+// (0 where there is none).
+pub struct Standing {
+    pub begun: bool,
+    pub speeds: usize,
+    pub jobs: usize,
+    pub holds: usize,
+    pub mhz: u64,
+    pub number: u64,
+    pub resource: u64,
+}
+
+// The job that an H line names: what it requests, or that it is not in the table.
+pub enum Holder {
+    Requests(u64),
+    Unknown,
+}
+
+pub enum Judgement {
+    Good,
+    Bad(Refusal),
+}
+
+fn clock_in_range(clock: u64, budget: u64) -> bool
+    ensures { λ r. ⌜ r ≡ inRange (Record.T clock budget) ⌝ }
+{
+    if !rules::within(0, MOST_TIME, clock) {
+        return false;
+    }
+    rules::within(0, MOST_BUDGET, budget)
+}
+
+fn speed_in_range(speed: Speed) -> bool
+    ensures { λ r. ⌜ r ≡ inRange (Record.F speed) ⌝ }
+{
+    if !rules::within(1, MOST_MHZ, speed.mhz) {
+        return false;
+    }
+    rules::within(1, MOST_COST, speed.cost)
+}
+
+fn job_in_range(job: Job) -> bool
+    ensures { λ r. ⌜ r ≡ inRange (Record.J job) ⌝ }
+{
+    if !rules::within(1, MOST_NUMBER, job.number) {
+        return false;
+    }
+    if !rules::within(1, MOST_CYCLES, job.cycles) {
+        return false;
+    }
+    if !rules::within(0, MOST_WORTH, job.worth) {
+        return false;
+    }
+    if !rules::within(0, MOST_TIME, job.critical) {
+        return false;
+    }
+    if !rules::within(0, MOST_TIME, job.termination) {
+        return false;
+    }
+    rules::within(0, MOST_RESOURCE, job.request)
+}
+
+fn hold_in_range(hold: Hold) -> bool
+    ensures { λ r. ⌜ r ≡ inRange (Record.H hold) ⌝ }
+{
+    if !rules::within(1, MOST_RESOURCE, hold.resource) {
+        return false;
+    }
+    rules::within(1, MOST_NUMBER, hold.holder)
+}
+
+// Refusals 2 and 3 of a T line.
+pub fn judge_clock(before: Standing, clock: u64, budget: u64) -> Judgement
+    ensures { λ r. ⌜ faultSays r ≡ clockFault before clock budget ⌝ }
+{
+    if !clock_in_range(clock, budget) {
+        return Judgement::Bad(Refusal::Range);
+    }
+    if before.begun {
+        return Judgement::Bad(Refusal::Order);
+    }
+    Judgement::Good
+}
+
+// Refusals 2 to 4 of an F line.
+pub fn judge_speed(before: Standing, speed: Speed) -> Judgement
+    ensures { λ r. ⌜ faultSays r ≡ speedFault before speed ⌝ }
+{
+    if !speed_in_range(speed) {
+        return Judgement::Bad(Refusal::Range);
+    }
+    if !before.begun {
+        return Judgement::Bad(Refusal::Order);
+    }
+    if before.jobs != 0 {
+        return Judgement::Bad(Refusal::Order);
+    }
+    if speed.mhz <= before.mhz {
+        return Judgement::Bad(Refusal::Order);
+    }
+    if rules::MOST_SPEEDS <= before.speeds {
+        return Judgement::Bad(Refusal::TooMany);
+    }
+    Judgement::Good
+}
+
+// Refusals 2 to 5 of a J line.
+pub fn judge_job(before: Standing, job: Job) -> Judgement
+    ensures { λ r. ⌜ faultSays r ≡ jobFault before job ⌝ }
+{
+    if !job_in_range(job) {
+        return Judgement::Bad(Refusal::Range);
+    }
+    if before.speeds == 0 {
+        return Judgement::Bad(Refusal::Order);
+    }
+    if before.holds != 0 {
+        return Judgement::Bad(Refusal::Order);
+    }
+    if job.number <= before.number {
+        return Judgement::Bad(Refusal::Order);
+    }
+    if MOST_JOBS <= before.jobs {
+        return Judgement::Bad(Refusal::TooMany);
+    }
+    if job.termination < job.critical {
+        return Judgement::Bad(Refusal::CriticalAfterTermination);
+    }
+    Judgement::Good
+}
+
+// Refusals 2, 3, 6 and 7 of an H line, whose job has been looked up.
+pub fn judge_hold(before: Standing, hold: Hold, holder: Holder) -> Judgement
+    ensures { λ r. ⌜ faultSays r ≡ holdFault before hold holder ⌝ }
+{
+    if !hold_in_range(hold) {
+        return Judgement::Bad(Refusal::Range);
+    }
+    if before.jobs == 0 {
+        return Judgement::Bad(Refusal::Order);
+    }
+    if hold.resource <= before.resource {
+        return Judgement::Bad(Refusal::Order);
+    }
+    let Holder::Requests(request) = holder else {
+        return Judgement::Bad(Refusal::UnknownJob);
+    };
+    if request == hold.resource {
+        return Judgement::Bad(Refusal::OwnRequest);
+    }
+    Judgement::Good
+}
+
+// Before line 1.
+pub fn none_standing() -> Standing
+    ensures { λ r. ⌜ r ≡ noneStanding ⌝ }
+{
+    Standing {
+        begun: false,
+        speeds: 0,
+        jobs: 0,
+        holds: 0,
+        mhz: 0,
+        number: 0,
+        resource: 0,
+    }
+}
+
+// The state after a T line.
+pub fn after_clock(before: Standing) -> Standing
+    ensures { λ r. ⌜ r ≡ afterClock before ⌝ }
+{
+    let mut next = before;
+    next.begun = true;
+    next
+}
+
+// The state after an F line.
+pub fn after_speed(before: Standing, speed: Speed) -> Standing
+    requires { ⌜ before .speeds ≤ mostSpeeds ⌝ }
+    ensures { λ r. ⌜ r ≡ afterSpeed before speed ⌝ }
+{
+    let mut next = before;
+    next.begun = true;
+    next.speeds = before.speeds + 1;
+    next.mhz = speed.mhz;
+    next
+}
+
+// The state after a J line.
+pub fn after_job(before: Standing, job: Job) -> Standing
+    requires { ⌜ before .jobs ≤ mostJobs ⌝ }
+    ensures { λ r. ⌜ r ≡ afterJob before job ⌝ }
+{
+    let mut next = before;
+    next.begun = true;
+    next.jobs = before.jobs + 1;
+    next.number = job.number;
+    next
+}
+
+// The state after an H line.
+pub fn after_hold(before: Standing, hold: Hold) -> Standing
+    requires { ⌜ before .holds ≤ mostHolds ⌝ }
+    ensures { λ r. ⌜ r ≡ afterHold before hold ⌝ }
+{
+    let mut next = before;
+    next.begun = true;
+    next.holds = before.holds + 1;
+    next.resource = hold.resource;
+    next
+}
+
+// The job of a number among the first count, in the columns of numbers and requests.
+pub fn look_up<'a>(
+    numbers: &'a [u64; MOST_JOBS],
+    requests: &'a [u64; MOST_JOBS],
+    count: usize,
+    number: u64,
+) -> Holder
+    requires { ⌜ count ≤ mostJobs ⌝ }
+    ensures { λ r. ⌜ ((js : List Job) → length js ≡ count → Column (λ j. j .number) js (now (numbers .entry)) → Column (λ j. j .request) js (now (requests .entry)) → r ≡ lookedUp js number) ⌝ }
+{
+    let mut i = 0;
+    while i < count {
+        if numbers[i] == number {
+            return Holder::Requests(requests[i]);
+        }
+        i += 1;
+    }
+    Holder::Unknown
+}

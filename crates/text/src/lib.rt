@@ -1,0 +1,277 @@
+// Reads a table text by a cursor: a field, and one line with its record. Nothing is split or copied: the text is lent to
+// each call, and the reading place goes by value.
+ghost use mathlib.Core.Path.{_≡_};
+ghost use mathlib.Core.Bool.{true};
+ghost use Prim.Native.Nat.{_≤_};
+ghost use lib.ListN.{length, drop};
+ghost use Rattle.rules.specs.Lists.{all};
+ghost use Rattle.rules.specs.TableText.{isDigit, letterJ, mostDigits, valueFrom};
+ghost use Rattle.text.specs.Fields.{front, letterAt, numberAt, refusedField, shaped, twoNumbersAt};
+ghost use Rattle.text.specs.Lines.{LineRead, lineWith, pairsAt, refusedLine};
+use rules::Field;
+use rules::Hold;
+use rules::Job;
+use rules::Refusal;
+use rules::Speed;
+
+// The letters of the four records.
+const LETTER_T: u64 = 84;
+
+const LETTER_F: u64 = 70;
+
+const LETTER_J: u64 = 74;
+
+const LETTER_H: u64 = 72;
+
+// The reading place, and the number of the line that it stands in.
+pub struct Cursor {
+    pub at: usize,
+    pub line: u64,
+}
+
+// A field's answer, and the reading place behind it; where the field is refused the reading place is where it was.
+pub struct Taken {
+    pub field: Field,
+    pub next: Cursor,
+}
+
+// Two numbers and the reading place behind them, or the refusal of their line.
+enum Pair {
+    Both(u64, u64, Cursor),
+    Refused(Refusal, u64),
+}
+
+// What a line holds: the record of one of the four letters, or the refusal and the number of the line.
+pub enum Parsed {
+    Clock(u64, u64),
+    Speed(Speed),
+    Job(Job),
+    Hold(Hold),
+    Refused(Refusal, u64),
+}
+
+// A line's answer, and the reading place behind its line feed, still with this line's number: who reads on counts the
+// lines. Where the line is refused the reading place is where it was.
+pub struct Line {
+    pub parsed: Parsed,
+    pub next: Cursor,
+}
+
+// How many digits stand from a place on.
+fn digits(text: &[u8], at: usize) -> usize
+    ensures { λ r. ⌜ r ≡ length (front (drop at (now (text .entry)))) ⌝ }
+{
+    let mut i = at;
+    while i < text.len() {
+        let byte = text[i];
+        if byte < b'0' {
+            return i - at;
+        }
+        if b'9' < byte {
+            return i - at;
+        }
+        i += 1;
+    }
+    i - at
+}
+
+// The number that at most 16 digits stand for.
+fn value(part: &[u8]) -> u64
+    requires { ⌜ all isDigit (now part) ≡ true ⌝ }
+    requires { ⌜ length (now part) ≤ mostDigits ⌝ }
+    ensures { λ r. ⌜ r ≡ valueFrom 0 (now (part .entry)) ⌝ }
+{
+    let mut sum: u64 = 0;
+    let mut i = 0;
+    while i < part.len() {
+        let digit = part[i] - b'0';
+        sum = sum * 10 + (digit as u64);
+        i += 1;
+    }
+    sum
+}
+
+// Digits, one or more, are a number: at most 16, and no leading zero.
+fn number_shaped(count: usize, first: u8) -> bool
+    ensures { λ r. ⌜ r ≡ shaped count first ⌝ }
+{
+    if 16 < count {
+        return false;
+    }
+    if first == b'0' {
+        return count <= 1;
+    }
+    true
+}
+
+impl Cursor {
+    // The refusal of a field that has not the shape of one.
+    fn refused_field(self) -> Taken
+        ensures { λ r. ⌜ r ≡ refusedField self ⌝ }
+    {
+        Taken {
+            field: Field::Refused(Refusal::Shape, self.line),
+            next: self,
+        }
+    }
+
+    // The number that stands here and is ended by the byte `end`.
+    pub fn number(self, text: &[u8], end: u8) -> Taken
+        ensures { λ r. ⌜ r ≡ numberAt (now (text .entry)) self end ⌝ }
+    {
+        let at = self.at;
+        let count = digits(text, at);
+        if count == 0 {
+            return self.refused_field();
+        }
+        if !number_shaped(count, text[at]) {
+            return self.refused_field();
+        }
+        let behind = at + count;
+        if behind == text.len() {
+            return self.refused_field();
+        }
+        if text[behind] != end {
+            return self.refused_field();
+        }
+        let sum = value(&text[at..behind]);
+        Taken {
+            field: Field::Number(sum),
+            next: Cursor {
+                at: behind + 1,
+                line: self.line,
+            },
+        }
+    }
+
+    // The letter that stands here alone before a tab.
+    pub fn letter(self, text: &[u8]) -> Taken
+        ensures { λ r. ⌜ r ≡ letterAt (now (text .entry)) self ⌝ }
+    {
+        let at = self.at;
+        if text.len() <= at {
+            return self.refused_field();
+        }
+        let behind = at + 1;
+        if behind == text.len() {
+            return self.refused_field();
+        }
+        if text[behind] != b'\t' {
+            return self.refused_field();
+        }
+        let byte = text[at] as u64;
+        Taken {
+            field: Field::Number(byte),
+            next: Cursor {
+                at: behind + 1,
+                line: self.line,
+            },
+        }
+    }
+
+    // Two numbers, the first ended by a tab and the second by the byte `end`.
+    fn two_numbers(self, text: &[u8], end: u8) -> Pair
+        ensures { λ r. ⌜ r ≡ twoNumbersAt (now (text .entry)) self end ⌝ }
+    {
+        let first_taken = self.number(text, b'\t');
+        let first_field = first_taken.field;
+        let Field::Number(first) = first_field else {
+            return Pair::Refused(Refusal::Shape, self.line);
+        };
+        let middle = first_taken.next;
+        let second_taken = middle.number(text, end);
+        let second_field = second_taken.field;
+        let Field::Number(second) = second_field else {
+            return Pair::Refused(Refusal::Shape, self.line);
+        };
+        let next = second_taken.next;
+        Pair::Both(first, second, next)
+    }
+
+    // The refusal of a line that has none of the four shapes.
+    fn refused_line(self) -> Line
+        ensures { λ r. ⌜ r ≡ refusedLine self ⌝ }
+    {
+        Line {
+            parsed: Parsed::Refused(Refusal::Shape, self.line),
+            next: self,
+        }
+    }
+}
+
+// The line at `place` whose letter is no J, and whose numbers stand from `from` on.
+fn line_of_two(text: &[u8], place: Cursor, from: Cursor, letter: u64) -> Line
+    ensures { λ r. ⌜ r ≡ lineWith place letter (pairsAt 0 (now (text .entry)) from) ⌝ }
+{
+    let Pair::Both(first, second, next) = from.two_numbers(text, b'\n') else {
+        return place.refused_line();
+    };
+    if letter == LETTER_T {
+        return Line {
+            parsed: Parsed::Clock(first, second),
+            next: next,
+        };
+    }
+    if letter == LETTER_F {
+        return Line {
+            parsed: Parsed::Speed(Speed {
+                mhz: first,
+                cost: second,
+            }),
+            next: next,
+        };
+    }
+    if letter == LETTER_H {
+        return Line {
+            parsed: Parsed::Hold(Hold {
+                resource: first,
+                holder: second,
+            }),
+            next: next,
+        };
+    }
+    place.refused_line()
+}
+
+// The line at `place` whose letter is J, and whose numbers stand from `from` on.
+fn line_of_six(text: &[u8], place: Cursor, from: Cursor) -> Line
+    ensures { λ r. ⌜ r ≡ lineWith place letterJ (pairsAt 2 (now (text .entry)) from) ⌝ }
+{
+    let Pair::Both(number, cycles, second) = from.two_numbers(text, b'\t') else {
+        return place.refused_line();
+    };
+    let Pair::Both(worth, critical, third) = second.two_numbers(text, b'\t') else {
+        return place.refused_line();
+    };
+    let Pair::Both(termination, request, next) = third.two_numbers(text, b'\n') else {
+        return place.refused_line();
+    };
+    let job = Job {
+        number: number,
+        cycles: cycles,
+        worth: worth,
+        critical: critical,
+        termination: termination,
+        request: request,
+    };
+    Line {
+        parsed: Parsed::Job(job),
+        next: next,
+    }
+}
+
+// The line that stands at a place of the text. For every place there is an answer: at the end of the text it is the refusal.
+pub fn record_at(text: &[u8], place: Cursor) -> Line
+    ensures { λ r. ⌜ LineRead (now (text .entry)) place r ⌝ }
+{
+    let taken = place.letter(text);
+    let field = taken.field;
+    let Field::Number(letter) = field else {
+        return place.refused_line();
+    };
+    let from = taken.next;
+    if letter == LETTER_J {
+        return line_of_six(text, place, from);
+    }
+    line_of_two(text, place, from, letter)
+}
