@@ -78,9 +78,9 @@ cases =
     -- Job 1 ends late after 3, so that its chain gives nothing. The late job 2 holds what 3 asks for: 3 waits for nobody.
     ∷ lists "T\t100\t10000\nF\t500\t12\nF\t800\t9\nF\t1000\t10\nJ\t1\t500\t20\t0\t800\t3\nJ\t2\t400\t1\t0\t200\t3\nJ\t3\t300\t0\t200\t1200\t2\nH\t1\t3\nH\t2\t2\nH\t3\t3\nH\t4\t3\n"
     "P\t500\t0\t0\nX\t1\t4\nX\t2\t2\nX\t3\t4\n"
-    -- A ring of 1000 and 3000 of equal worth: 1000 has more cycles, and goes. Then 2000 and 3000 have equal ratios.
-    ∷ lists "T\t1000\t8000\nF\t500\t12\nF\t800\t9\nF\t1000\t10\nJ\t1000\t500\t5\t20000\t20000\t2\nJ\t2000\t400\t20\t2900\t3100\t3\nJ\t3000\t100\t5\t2900\t2900\t4\nH\t1\t3000\nH\t2\t3000\nH\t4\t1000\n"
-    "P\t500\t6000\t2\nO\t3000\t1200\nO\t2000\t2000\nX\t1000\t3\n"
+    -- A ring of 1 and 3: 1 has more worth and far more cycles, and goes. Then 2 and 3 have equal ratios.
+    ∷ lists "T\t1000\t8000\nF\t500\t12\nF\t800\t9\nF\t1000\t10\nJ\t1\t500\t5\t800000\t800000\t2\nJ\t2\t400\t200\t2900\t3100\t3\nJ\t3\t2\t1\t2900\t2900\t1\nH\t1\t1\nH\t2\t3\n"
+    "P\t500\t4824\t2\nO\t3\t1004\nO\t2\t1804\nX\t1\t3\n"
     -- A new member lowers the limit to its critical time; a member that is moved takes the limit as its key.
     ∷ lists "T\t700\t12000\nF\t500\t7\nF\t1000\t10\nJ\t1\t200\t0\t700\t1700\t4\nJ\t2\t100\t20\t2600\t2800\t1\nJ\t3\t200\t1\t100\t1100\t4\nJ\t4\t100\t2\t1400\t1400\t2\nJ\t5\t100\t20\t900\t900\t0\nH\t1\t3\nH\t2\t3\nH\t3\t1\nH\t4\t5\n"
     "P\t1000\t7000\t5\nO\t5\t800\nO\t3\t1000\nO\t1\t1200\nO\t4\t1300\nO\t2\t1400\n"
