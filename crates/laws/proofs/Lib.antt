@@ -47,3 +47,4 @@ pub mod Demand3Needed
 pub mod Fates
 pub mod Testers
 pub mod TestersInstance
+pub mod ChainRuns

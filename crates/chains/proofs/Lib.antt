@@ -1,0 +1,5 @@
+pub mod Walks
+pub mod ChainSums
+pub mod Rings
+pub mod Remaining
+pub mod Holding

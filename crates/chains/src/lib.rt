@@ -1,0 +1,223 @@
+// Steps 1 to 4 of "From jobs to a plan" on lent columns: who is late alone, who leaves a ring, and what a chain takes and
+// gives. A job is known by its place in the table, and whom it waits for stands as a place in a column, 64 for nobody.
+use rules::Hold;
+use rules::MOST_HOLDS;
+use rules::MOST_JOBS;
+ghost use mathlib.Core.Bool.{cond, not, _||_};
+ghost use mathlib.Core.Path.{_≡_};
+ghost use Prim.Native.Nat.{_≤_, _<_};
+ghost use lib.Dec.{eqb};
+ghost use Rattle.chains.specs.Promises.{ChainCycles, ChainGives, Comparable, Holdable, Holders, LeavesRing};
+ghost use Rattle.chains.specs.Promises.{PlaceOf, Rather, Runnable, WaitsFor, Weighable, mostWorth};
+ghost use Rattle.columns.specs.Columns.{AtMost};
+ghost use Rattle.rules.specs.Plan.{endsBy};
+ghost use Rattle.rules.specs.TableText.{mostCycles, mostHolds, mostJobs};
+
+// The resources, from 0, which no H line names.
+pub const RESOURCES: usize = 33;
+
+// The place of nobody.
+pub const NOBODY: u64 = 64;
+
+// Step 1, "now + its run time at top speed > termination", multiplied out.
+pub fn late(clock: u64, mhz: u64, cycles: u64, termination: u64) -> bool
+    requires { ⌜ Comparable clock mhz cycles termination ⌝ }
+    ensures { λ r. ⌜ r ≡ not (endsBy clock mhz cycles termination) ⌝ }
+{
+    termination * mhz < clock * mhz + cycles * 1000
+}
+
+// Step 2, "the remaining job that holds the resource": the place of the job of this number, or nobody's.
+fn place_of(numbers: &[u64; MOST_JOBS], count: usize, number: u64) -> u64
+    requires { ⌜ count ≤ mostJobs ⌝ }
+    ensures { λ r. ⌜ PlaceOf (now (numbers .entry)) count number r ⌝ }
+{
+    let mut i = 0;
+    while i < count {
+        if numbers[i] == number {
+            return i as u64;
+        }
+        i += 1;
+    }
+    NOBODY
+}
+
+// Step 2, "holds the resource": at each resource the place of the job that its H line names. The H lines are gone through
+// from the last to the first.
+pub fn holders(
+    holds: [Hold; MOST_HOLDS],
+    hold_count: usize,
+    numbers: &[u64; MOST_JOBS],
+    job_count: usize,
+) -> [u64; RESOURCES]
+    requires { ⌜ Holdable holds «hold_count» «job_count» ⌝ }
+    ensures { λ r. ⌜ Holders holds (now (numbers .entry)) «hold_count» «job_count» r ⌝ }
+{
+    let mut holder_at = [NOBODY; RESOURCES];
+    let mut i = hold_count;
+    while 0 < i {
+        i -= 1;
+        let hold = holds[i];
+        let resource = hold.resource as usize;
+        let place = place_of(numbers, job_count, hold.holder);
+        holder_at[resource] = place;
+    }
+    holder_at
+}
+
+// Step 2, "A job waits for the remaining job that holds the resource it requests": its place, where its fate is 0 yet.
+pub fn waits_for<'a>(
+    requests: &'a [u64; MOST_JOBS],
+    holder_at: &'a [u64; RESOURCES],
+    fates: &'a [u64; MOST_JOBS],
+    place: usize,
+) -> u64
+    requires { ⌜ (place < mostJobs) × AtMost mostHolds (now requests) ⌝ }
+    ensures { λ r. ⌜ WaitsFor place (now (requests .entry)) (now («holder_at» .entry)) (now (fates .entry)) r ⌝ }
+{
+    let resource = requests[place] as usize;
+    let holder = holder_at[resource];
+    if NOBODY <= holder {
+        return NOBODY;
+    }
+    let fate = fates[holder as usize];
+    if fate != 0 {
+        return NOBODY;
+    }
+    holder
+}
+
+// Step 2, "the one with the least worth / cycles ..; among equals, the one with the greatest number": whether the job of
+// the first three numbers goes rather than that of the others.
+pub fn goes_rather(
+    worth: u64,
+    cycles: u64,
+    number: u64,
+    other_worth: u64,
+    other_cycles: u64,
+    other_number: u64,
+) -> bool
+    requires { ⌜ Weighable worth cycles × Weighable «other_worth» «other_cycles» ⌝ }
+    ensures { λ r. ⌜ Rather worth cycles number «other_worth» «other_cycles» «other_number» r ⌝ }
+{
+    let weight = worth * other_cycles;
+    let other_weight = other_worth * cycles;
+    if weight < other_weight {
+        return true;
+    }
+    if other_weight < weight {
+        return false;
+    }
+    other_number <= number
+}
+
+// Step 2, "On each ring": whether the job itself was met by now.
+fn met_by(met: bool, place: usize, at: usize) -> bool
+    ensures { λ r. ⌜ r ≡ met || eqb place at ⌝ }
+{
+    met || place == at
+}
+
+// Step 2, "On each ring of waiting jobs, the one .. is taken out": whether it is the job at this place. Each job that it
+// waits for holds one of 32 resources, so that after 32 steps all are met.
+pub fn leaves_ring<'a>(
+    place: usize,
+    waits: &'a [u64; MOST_JOBS],
+    numbers: &'a [u64; MOST_JOBS],
+    worth: &'a [u64; MOST_JOBS],
+    cycles: &'a [u64; MOST_JOBS],
+) -> bool
+    requires { ⌜ (place < mostJobs) × AtMost mostWorth (now worth) × AtMost mostCycles (now cycles) ⌝ }
+    ensures { λ r. ⌜ LeavesRing place (now (waits .entry)) (now (numbers .entry)) (now (worth .entry)) (now (cycles .entry)) r ⌝ }
+{
+    let mut met = false;
+    let mut at = waits[place] as usize;
+    let mut i = 0;
+    while i < MOST_HOLDS {
+        if MOST_JOBS <= at {
+            return met;
+        }
+        let goes = goes_rather(
+            worth[place],
+            cycles[place],
+            numbers[place],
+            worth[at],
+            cycles[at],
+            numbers[at],
+        );
+        if !goes {
+            return false;
+        }
+        met = met_by(met, place, at);
+        at = waits[at] as usize;
+        i += 1;
+    }
+    met
+}
+
+// Steps 3 and 4, "A job's chain is itself, then the job it waits for, and so on": the sum of its cycles.
+pub fn chain_cycles<'a>(
+    place: usize,
+    waits: &'a [u64; MOST_JOBS],
+    cycles: &'a [u64; MOST_JOBS],
+) -> u64
+    requires { ⌜ AtMost mostCycles (now cycles) ⌝ }
+    ensures { λ r. ⌜ ChainCycles place (now (waits .entry)) (now (cycles .entry)) r ⌝ }
+{
+    let mut sum = 0;
+    let mut at = place;
+    let mut i = 0;
+    while i <= MOST_HOLDS {
+        if MOST_JOBS <= at {
+            return sum;
+        }
+        sum += cycles[at];
+        at = waits[at] as usize;
+        i += 1;
+    }
+    sum
+}
+
+// Step 4, "Each member that finishes at or before its termination gives its worth, else 0": it finishes after so many
+// cycles.
+fn given(clock: u64, mhz: u64, cycles: u64, termination: u64, worth: u64) -> u64
+    requires { ⌜ Comparable clock mhz cycles termination ⌝ }
+    ensures { λ r. ⌜ (r ≡ cond (endsBy clock mhz cycles termination) worth 0) × (r ≤ worth) ⌝ }
+{
+    if late(clock, mhz, cycles, termination) {
+        return 0;
+    }
+    worth
+}
+
+// Step 4, "Run the chain alone from now at top speed": the sum of what its members give. The chain runs from the far end
+// to the job, so that a member ends when it and all behind it have run: after what is left of the chain's cycles.
+pub fn chain_gives<'a>(
+    place: usize,
+    waits: &'a [u64; MOST_JOBS],
+    cycles: &'a [u64; MOST_JOBS],
+    worth: &'a [u64; MOST_JOBS],
+    termination: &'a [u64; MOST_JOBS],
+    clock: u64,
+    mhz: u64,
+    all: u64,
+) -> u64
+    requires { ⌜ Runnable place (now waits) (now cycles) (now worth) (now termination) clock mhz all ⌝ }
+    ensures { λ r. ⌜ ChainGives place (now (waits .entry)) (now (cycles .entry)) (now (worth .entry)) (now (termination .entry)) clock mhz r ⌝ }
+{
+    let mut sum = 0;
+    let mut left = all;
+    let mut at = place;
+    let mut i = 0;
+    while i <= MOST_HOLDS {
+        if MOST_JOBS <= at {
+            return sum;
+        }
+        let own = cycles[at];
+        sum += given(clock, mhz, left, termination[at], worth[at]);
+        left -= own;
+        at = waits[at] as usize;
+        i += 1;
+    }
+    sum
+}
