@@ -3,3 +3,4 @@ pub mod ChainSums
 pub mod Rings
 pub mod Remaining
 pub mod Holding
+pub mod Stage

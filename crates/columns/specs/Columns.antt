@@ -5,8 +5,9 @@ use mathlib.Core.Path.{_≡_}
 use Prim.Native.Nat.{ℕ, _≤_, _<_}
 use lib.ListN.{getD, length, set}
 use Rattle.columns.specs.declared.Columns.{Columns}
-use Rattle.rules.specs.Plan.{Entry}
-use Rattle.rules.specs.TableText.{noJob}
+use Rattle.columns.specs.declared.Terms.{Terms}
+use Rattle.rules.specs.Plan.{Entry, topOf}
+use Rattle.rules.specs.TableText.{Records, noJob}
 use Rattle.rules.specs.declared.Job.{Job}
 
 -- at each place the field of the job there, and 0 beyond the jobs
@@ -21,6 +22,14 @@ pub record ColumnsOf (js : List Job) (c : Columns) : Type 0 where
   pub critical : Column (λ j. j .critical) js (c .critical)
   pub termination : Column (λ j. j .termination) js (c .termination)
   pub request : Column (λ j. j .request) js (c .request)
+
+-- the T line, "the top speed", and how many jobs there are
+pub record TermsOf (t : Records) (terms : Terms) : Type 0 where
+  pub clock : terms .clock ≡ t .clock
+  pub budget : terms .budget ≡ t .budget
+  pub mhz : terms .mhz ≡ topOf t .mhz
+  pub cost : terms .cost ≡ topOf t .cost
+  pub job-count : terms .«job_count» ≡ length (t .jobs)
 
 -- the jobs at these places
 abbrev pub jobsAt : List Job → List ℕ → List Job

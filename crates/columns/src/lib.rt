@@ -16,6 +16,15 @@ pub struct Columns {
     pub request: [u64; MOST_JOBS],
 }
 
+// What every step reads beside the jobs: the T line, the top speed and its cost, and how many jobs there are.
+pub struct Terms {
+    pub clock: u64,
+    pub budget: u64,
+    pub mhz: u64,
+    pub cost: u64,
+    pub job_count: usize,
+}
+
 // For every step: the columns of a table's jobs. One store a field, so that no column is copied in the loop.
 pub fn columns_of(table: Table) -> Columns
     requires { ⌜ table .«job_count» ≤ mostJobs ⌝ }
