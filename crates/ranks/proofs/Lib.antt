@@ -1,0 +1,4 @@
+pub mod FilledBack
+pub mod RatiosBack
+pub mod Placed
+pub mod Ordered

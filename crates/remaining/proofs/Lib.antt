@@ -1,0 +1,2 @@
+pub mod FilledTo
+pub mod Staging

@@ -1,0 +1,76 @@
+-- What the functions of steps 1 and 2 ask and promise for a whole table.
+use mathlib.Core.Bool.{Bool, cond}
+use mathlib.Core.List.{List}
+use mathlib.Core.Option.{Option}
+use mathlib.Core.Path.{_≡_}
+use Prim.Native.Nat.{ℕ, _≤_, _<_}
+use lib.Dec.{eqb}
+use lib.ListN.{getD, length, take}
+use Rattle.chains.specs.Promises.{Holdable, mostWorth}
+use Rattle.chains.specs.Stage.{Stage, fateIfLate}
+use Rattle.chains.specs.Waits.{HolderAt, Remaining, Waits}
+use Rattle.columns.specs.Columns.{AtMost, Column, TermsOf}
+use Rattle.columns.specs.declared.Terms.{Terms}
+use Rattle.entries.specs.Promises.{mostMhz, mostTime}
+use Rattle.remaining.specs.declared.Remaining.{Remaining as Left}
+use Rattle.rules.specs.Lists.{Rising, keep}
+use Rattle.rules.specs.Plan.{awaited, fateDeadlock, leavesRing, waitsFor}
+use Rattle.rules.specs.TableText.{Records, mostCycles, mostHolds, mostJobs, noJob}
+use Rattle.rules.specs.Valid.{Valid}
+use Rattle.rules.specs.declared.Hold.{Hold}
+use Rattle.rules.specs.declared.Job.{Job}
+
+-- Times, cycles and a speed in their ranges: no product of them wraps.
+pub record Timeable (cycles termination : List ℕ) (terms : Terms) : Type 0 where
+  pub few-jobs : terms .«job_count» ≤ mostJobs
+  pub cycles-small : AtMost mostCycles cycles
+  pub termination-small : AtMost mostTime termination
+  pub clock-small : terms .clock ≤ mostTime
+  pub mhz-small : terms .mhz ≤ mostMhz
+
+-- The fates of step 1.
+pub record LateFates (cycles termination : List ℕ) (terms : Terms) (r : List ℕ) : Type 0 where
+  pub late : (t : Records) → TermsOf t terms → Column (λ j. j .cycles) (t .jobs) cycles
+      → Column (λ j. j .termination) (t .jobs) termination
+      → (i : ℕ) → i < length (t .jobs) → getD r i 0 ≡ fateIfLate t (getD (t .jobs) i noJob)
+
+-- Whom each job waits for among those of fate 0.
+pub record WaitsColumn (request holder-at fates : List ℕ) (job-count : ℕ) (r : List ℕ) : Type 0 where
+  pub waits : (js : List Job) (holds : List Hold) (remains : Job → Bool) → length js ≡ job-count
+      → Rising (λ j. j .number) js → Column (λ j. j .request) js request → HolderAt js holds holder-at
+      → Remaining js remains fates → Waits js (waitsFor holds (keep remains js)) r
+
+-- The fate before, or 3 for a job of fate 0 that leaves its ring.
+pub record RingFate (late place : ℕ) (waits number worth cycles : List ℕ) (r : ℕ) : Type 0 where
+  pub fate : (t : Records) (js : List Job) (next : Job → Option Job) → Rising (λ j. j .number) js
+      → Waits js next waits → place < length js → Column (λ j. j .number) js number
+      → Column (λ j. j .worth) js worth → Column (λ j. j .cycles) js cycles
+      → r
+      ≡ cond (eqb late 0)
+      (cond (leavesRing t (awaited next (getD js place noJob)) (getD js place noJob)) fateDeadlock 0) late
+
+-- The fates before, and 3 for each job of fate 0 that leaves its ring.
+pub record RingFates (late waits number worth cycles : List ℕ) (job-count : ℕ) (r : List ℕ) : Type 0 where
+  pub fates : (t : Records) (js : List Job) (next : Job → Option Job) → length js ≡ job-count
+      → Rising (λ j. j .number) js → Waits js next waits → Column (λ j. j .number) js number
+      → Column (λ j. j .worth) js worth → Column (λ j. j .cycles) js cycles
+      → (i : ℕ) → i < length js
+      → getD r i 0
+      ≡ cond (eqb (getD late i 0) 0)
+      (cond (leavesRing t (awaited next (getD js i noJob)) (getD js i noJob)) fateDeadlock 0) (getD late i 0)
+
+-- Counts, resources, times, cycles, worths, requests and a speed in their ranges.
+pub record Stageable (holds : List Hold) (hold-count : ℕ) (cycles worth termination request : List ℕ) (terms : Terms)
+    : Type 0 where
+  pub holdable : Holdable holds hold-count (terms .«job_count»)
+  pub timeable : Timeable cycles termination terms
+  pub worth-small : AtMost mostWorth worth
+  pub request-small : AtMost mostHolds request
+
+-- What steps 1 and 2 leave.
+pub record Staged (holds : List Hold) (hold-count : ℕ) (number cycles worth termination request : List ℕ) (terms : Terms)
+    (r : Left) : Type 0 where
+  pub stage : (t : Records) → Valid t → TermsOf t terms → take hold-count holds ≡ t .holds
+      → Column (λ j. j .number) (t .jobs) number → Column (λ j. j .cycles) (t .jobs) cycles
+      → Column (λ j. j .worth) (t .jobs) worth → Column (λ j. j .termination) (t .jobs) termination
+      → Column (λ j. j .request) (t .jobs) request → Stage t (r .fates) (r .waits)
