@@ -1,0 +1,4 @@
+pub mod Answers
+pub mod Unique
+pub mod Walks
+pub mod Decisions

@@ -1,0 +1,45 @@
+-- Any two answers that a promise of the planner allows are equal: the decision says what the rules say, and is known by
+-- it; the lists are the rules'; and the part begins where the order buffer does. (The ghost name of a part is no value of
+-- the program.) Assumes nothing.
+use mathlib.Core.List.{List}
+use mathlib.Core.Path.{_≡_, sym, ap, _∙_}
+use Prim.Native.Nat.{ℕ}
+use contract.Lifetimes.{Lfts}
+use denote.Ref.{RefT, now, ptr}
+use Rattle.laws.proofs.Unique.{decision-unique}
+use Rattle.planner.proofs.plan_into.Reads.{Learnt}
+use Rattle.planner.specs.Promises.{PartPromised, PlannedAs}
+use Rattle.planner.specs.declared.Planned.{Planned}
+use Rattle.rules.specs.Plan.{AfterPlanning}
+use Rattle.rules.specs.declared.Decision.{Decision}
+
+-- what the promise of `plan_into` tells a caller of a decision and the lent buffers behind the call
+abbrev pub Promised : Lfts 3 → (text order fates : RefT (List ℕ)) → Decision → (order′ fates′ : RefT (List ℕ)) → Type 0
+Promised lifetimes text order fates r order′ fates′ =
+    Learnt lifetimes (text, (order, (fates, tt))) r (text, (order′, (fates′, tt)))
+
+pub unique-into : (lifetimes : Lfts 3) (text order fates a b a′ b′ : RefT (List ℕ)) (r s : Decision)
+    → Promised lifetimes text order fates r a b → Promised lifetimes text order fates s a′ b′
+    → (r ≡ s) × (a .now ≡ a′ .now) × (b .now ≡ b′ .now)
+unique-into lifetimes text order fates a b a′ b′ r s p q =
+    let same = p ∙ sym q in (
+      decision-unique r s (ap (λ (told : AfterPlanning). told .answer) same),
+      ap (λ (told : AfterPlanning). told .order) same,
+      ap (λ (told : AfterPlanning). told .fates) same,
+    )
+
+pub unique-plan : (text order fates : List ℕ) (begin : ℕ × ℕ) (r s : Planned) (b b′ : List ℕ)
+    → PlannedAs text order fates begin r b → PlannedAs text order fates begin s b′
+    → (now (r .plan) ≡ now (s .plan)) × (ptr (r .plan) ≡ ptr (s .plan)) × (r .decision ≡ s .decision) × (b ≡ b′)
+unique-plan text order fates begin r s b b′ p q = (
+  p .plan ∙ sym (q .plan),
+  p .begins ∙ sym (q .begins),
+  decision-unique (r .decision) (s .decision) (p .decided ∙ sym (q .decided)),
+  p .fates-left ∙ sym (q .fates-left),
+)
+
+pub unique-part : (text order fates : List ℕ) (begin : ℕ × ℕ) (part part′ : List ℕ) (at at′ : ℕ × ℕ) (b b′ : List ℕ)
+    → PartPromised text order fates begin part at b → PartPromised text order fates begin part′ at′ b′
+    → (part ≡ part′) × (at ≡ at′) × (b ≡ b′)
+unique-part text order fates begin part part′ at at′ b b′ p q =
+    (p .plan ∙ sym (q .plan), p .begins ∙ sym (q .begins), p .fates-left ∙ sym (q .fates-left))

@@ -1,0 +1,140 @@
+-- A valid table is in the ranges that the steps ask for, and its terms are those of its records. Assumes nothing.
+use mathlib.Core.Bool.{true}
+use mathlib.Core.List.{List, [], _∷_}
+use mathlib.Core.Path.{_≡_, refl, sym, ap, _∙_}
+use Prim.Native.Nat.{ℕ, zero, suc, _-_, _≤_, _<_}
+use native.Mathlib.Omega.{arith}
+use lib.ListN.{getD, length, take}
+use lib.Seq.{getD-take, length-take-le}
+use Rattle.columns.proofs.Ranges.{ColumnsInRange, columns-in-range}
+use Rattle.columns.specs.Columns.{ColumnsOf, TermsOf}
+use Rattle.columns.specs.declared.Columns.{Columns}
+use Rattle.columns.specs.declared.Terms.{Terms}
+use Rattle.laws.proofs.Ranges.{HoldRanges, SpeedRanges, clock-ranges, hold-ranges, speed-ranges}
+use Rattle.plans.specs.Promises.{Concludable, Placed, Plannable, Runnable}
+use Rattle.plans.specs.declared.Course.{Course as Ran}
+use Rattle.rules.specs.Lists.{Each, lastOr, none-left, _and_}
+use Rattle.rules.specs.Plan.{topOf}
+use Rattle.rules.specs.TableText.{Record, Records, inRange, mostHolds, mostJobs, mostSpeeds, noHold, noSpeed, recordsOf}
+use Rattle.rules.specs.declared.Hold.{Hold}
+use Rattle.rules.specs.declared.Speed.{Speed}
+use Rattle.rules.specs.declared.Table.{Table}
+
+module _ {A : Type 0} where
+  last-behind : (x d : A) (xs : List A) (n : ℕ) → n ≤ length xs → lastOr x (take n xs) ≡ getD (x ∷ xs) n d
+  last-behind x d xs zero h = refl
+  last-behind x d [] (suc n) h = absurd (omega arith)
+  last-behind x d (y ∷ ys) (suc n) h = last-behind y d ys n (omega arith)
+
+  -- the last of the first n stands at n - 1
+  last-of-first : (d : A) (xs : List A) (n : ℕ) → 1 ≤ n → n ≤ length xs → lastOr d (take n xs) ≡ getD xs (n - 1) d
+  last-of-first d xs zero m h = absurd (omega arith)
+  last-of-first d [] (suc n) m h = absurd (omega arith)
+  last-of-first d (x ∷ xs) (suc n) m h =
+      let e : suc n - 1 ≡ n = omega arith in rw e (last-behind x d xs n (omega arith))
+
+  each-at-place : {P : A → Type 0} {xs : List A} (d : A) → Each P xs → (i : ℕ) → i < length xs → P (getD xs i d)
+  each-at-place d none-left i h = absurd (omega arith)
+  each-at-place d (p and e) zero h = p
+  each-at-place d (p and e) (suc i) h = each-at-place d e i (omega arith)
+
+  -- what each of the first n has, that at each of their places has
+  each-of-first : {P : A → Type 0} (d : A) (xs : List A) (n : ℕ) → n ≤ length xs → Each P (take n xs) → (i : ℕ) → i < n
+      → P (getD xs i d)
+  each-of-first {P} d xs n l e i h =
+      rw (sym (getD-take n xs i d h)) (each-at-place {P = P} d e i (omega (arith, length-take-le n xs l)))
+
+module _ (table : Table) (p : Plannable table) (all-speeds : length (table .speeds) ≡ mostSpeeds) where
+  abbrev top : Speed
+  top = getD (table .speeds) (table .«speed_count» - 1) noSpeed
+
+  abbrev terms : Terms
+  terms = record {
+    clock = table .clock;
+    budget = table .budget;
+    mhz = top .mhz;
+    cost = top .cost;
+    «job_count» = table .«job_count»;
+  }
+
+  pub some-speed : 1 ≤ table .«speed_count»
+  unfolding recordsOf
+  some-speed =
+      omega
+      (arith, p .valid .some-speed, length-take-le (table .«speed_count») (table .speeds) (omega (arith, p .few-speeds)))
+
+  top-is-last : topOf (recordsOf table) ≡ top
+  unfolding topOf recordsOf
+  top-is-last =
+      last-of-first noSpeed (table .speeds) (table .«speed_count») some-speed (omega (arith, p .few-speeds, all-speeds))
+
+  pub terms-of-table : length (table .jobs) ≡ mostJobs → TermsOf (recordsOf table) terms
+  unfolding recordsOf
+  terms-of-table all-jobs = record {
+    clock = refl;
+    budget = refl;
+    mhz = ap (λ (f : Speed). f .mhz) (sym top-is-last);
+    cost = ap (λ (f : Speed). f .cost) (sym top-is-last);
+    job-count =
+        sym (length-take-le (table .«job_count») (table .jobs) (omega (arith, p .few-jobs, all-jobs)));
+  }
+
+  speed-in-range : (i : ℕ) → i < table .«speed_count» → SpeedRanges (getD (table .speeds) i noSpeed)
+  unfolding recordsOf
+  speed-in-range i h =
+      speed-ranges (getD (table .speeds) i noSpeed)
+      (each-of-first {P = λ f. inRange (Record.F f) ≡ true} noSpeed (table .speeds) (table .«speed_count»)
+      (omega (arith, p .few-speeds, all-speeds)) (p .valid .speed-ranges) i h)
+
+  clock-in-range : table .clock ≤ 1000000000
+  unfolding recordsOf
+  clock-in-range = clock-ranges (table .clock) (table .budget) (p .valid .clock-range) .0
+
+  module _ (columns : Columns) (of : ColumnsOf (recordsOf table .jobs) columns) where
+    ranges : ColumnsInRange columns
+    ranges = columns-in-range (recordsOf table .jobs) columns (p .valid .job-ranges) of
+
+    pub table-runnable : length (table .holds) ≡ mostHolds
+        → Runnable (table .holds) (table .«hold_count») (columns .cycles) (columns .worth) (columns .termination)
+        (columns .request) terms
+    unfolding recordsOf
+    table-runnable all-holds =
+        let last = speed-in-range (table .«speed_count» - 1) (omega (arith, some-speed)) in
+        record {
+          stageable =
+              record {
+                holdable =
+                    record {
+                      few-holds = p .few-holds;
+                      few-jobs = p .few-jobs;
+                      resources-small = λ i h.
+                          hold-ranges (getD (table .holds) i noHold)
+                          (each-of-first {P = λ k. inRange (Record.H k) ≡ true} noHold (table .holds)
+                          (table .«hold_count») (omega (arith, p .few-holds, all-holds)) (p .valid .hold-ranges) i h)
+                          .resource-to;
+                    };
+                timeable =
+                    record {
+                      few-jobs = p .few-jobs;
+                      cycles-small = ranges .cycles;
+                      termination-small = ranges .termination;
+                      clock-small = clock-in-range;
+                      mhz-small = last .mhz-to;
+                    };
+                worth-small = ranges .worth;
+                request-small = ranges .request;
+              };
+          cost-small = last .cost-to;
+        }
+
+    pub table-concludable : (course : Ran) → Placed (course .count) (course .places)
+        → Concludable (table .speeds) (table .«speed_count») (columns .cycles) (columns .termination) course terms
+    table-concludable course placed = record {
+      placed = placed;
+      few-speeds = p .few-speeds;
+      mhz-small = λ i h. speed-in-range i h .mhz-to;
+      cost-small = λ i h. speed-in-range i h .cost-to;
+      cycles-small = ranges .cycles;
+      termination-small = ranges .termination;
+      clock-small = clock-in-range;
+    }

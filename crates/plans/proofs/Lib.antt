@@ -1,0 +1,10 @@
+pub mod Speeds
+pub mod Marks
+pub mod Courses
+pub mod Padding
+pub mod Concluding
+pub mod Taking
+pub mod Running
+pub mod Deciding
+pub mod Leaving
+pub mod Readings

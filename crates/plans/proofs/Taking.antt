@@ -1,0 +1,102 @@
+-- The course of turns on places and keys: after each turn they stand for the plan of the rules' course so far, and the
+-- fates for its fates. Assumes nothing.
+use mathlib.Core.List.{List}
+use mathlib.Core.Path.{_≡_, refl, sym, ap, _∙_}
+use Prim.Native.Nat.{ℕ, _+_, _≤_, _<_}
+use native.Mathlib.Omega.{arith}
+use lib.Dec.{eqb}
+use lib.ListN.{getD, length, set, take}
+use lib.Seq.{getD-take, length-take-le}
+use Rattle.chains.specs.Stage.{fateSoFar}
+use Rattle.columns.proofs.Entries.{jobs-of-entries}
+use Rattle.columns.specs.declared.Terms.{Terms}
+use Rattle.entries.proofs.Found.{in-plan-where-inside}
+use Rattle.entries.proofs.Searches.{some-where-first-inside}
+use Rattle.plans.proofs.Courses.{fates-after, fates-at-start, one-more-turn, plan-after}
+use Rattle.plans.specs.Courses.{FatesByTurn, courseBy, jobAt, turnAt}
+use Rattle.plans.specs.Promises.{CourseBy, TurnsOf}
+use Rattle.plans.specs.declared.Course.{Course as Ran}
+use Rattle.rules.specs.Lists.{Rising}
+use Rattle.rules.specs.Plan.{Course, Outcome, course, inPlan, jobsOf, start, turn}
+use Rattle.rules.specs.TableText.{Records}
+use Rattle.trials.specs.Promises.{OfJobs, Standing, TurnOf, TurnTaken, planIn}
+use Rattle.trials.specs.declared.Turned.{Turned}
+
+-- places, keys and fates stand for a course
+pub record OnCourse (t : Records) (c : Course) (count : ℕ) (places keys fates : List ℕ) : Type 0 where
+  pub plan : planIn (t .jobs) count places keys ≡ c .plan
+  pub of-jobs : OfJobs (t .jobs) count places
+  pub fates-by-turn : FatesByTurn t c fates
+
+module _ (t : Records) (order : List ℕ) (turn-count : ℕ) (over waits critical cycles termination so-far : List ℕ)
+    (terms : Terms) (of : TurnsOf t order turn-count over waits critical cycles termination so-far terms) where
+  pub at-start : (places keys : List ℕ) → OnCourse t (courseBy t order 0) 0 places keys so-far
+  unfolding course start
+  at-start places keys = record {
+    plan = refl;
+    of-jobs = λ i h. absurd (omega arith);
+    fates-by-turn = fates-at-start t so-far (of .fates-so-far);
+  }
+
+  module _ (i : ℕ) (turns-there : turn-count ≤ length order) (h : i < turn-count) where
+    abbrev place : ℕ
+    place = getD order i 0
+
+    of-job : place < length (t .jobs)
+    of-job =
+        let e = getD-take turn-count order i 0 h in
+        omega (arith, e, of .of-jobs i (omega (arith, length-take-le turn-count order turns-there)))
+
+    remains-so-far : fateSoFar t (jobAt t place) ≡ 0
+    remains-so-far = sym (of .fates-so-far place of-job) ∙ of .remain i h
+
+    module _ (count : ℕ) (places keys fates : List ℕ) (on : OnCourse t (courseBy t order i) count places keys fates) where
+      turn-of : TurnOf t count place (getD over place 0) waits critical cycles termination places terms
+      turn-of = record {
+        valid = of .valid;
+        terms-of = of .terms-of;
+        waits-left = of .waits-left;
+        critical-of = of .critical-of;
+        cycles-of = of .cycles-of;
+        termination-of = of .termination-of;
+        of-jobs = on .of-jobs;
+        place-of-job = of-job;
+        over-of = of .over-of place of-job (of .remain i h);
+      }
+
+      pub one-more-taken : (places' keys' : List ℕ) (r : Turned) → place < length fates
+          → TurnTaken count place (getD over place 0) waits critical cycles termination places keys places' keys' terms r
+          → OnCourse t (courseBy t order (i + 1)) (r .count) places' keys' (set fates place (r .fate))
+      one-more-taken places' keys' r l taken =
+          let before = courseBy t order i in
+          let left : Outcome = record { plan = planIn (t .jobs) (r .count) places' keys'; fate = r .fate } in
+          let goes : turn t (turnAt t place) (before .plan) ≡ left =
+          ap (turn t (turnAt t place)) (sym (on .plan)) ∙ sym (taken .outcome t turn-of) in
+          let more = one-more-turn t order i (omega arith) in
+          record {
+            plan = sym (plan-after t (turnAt t place) before left goes) ∙ ap (λ (c : Course). c .plan) (sym more);
+            of-jobs = taken .of-jobs t turn-of;
+            fates-by-turn =
+                rw more
+                (fates-after t (of .valid .jobs-rise) before fates place (r .fate) of-job l remains-so-far
+                (ap (λ (o : Outcome). o .fate) goes) (on .fates-by-turn));
+          }
+
+-- after the last turn
+pub at-end : (t : Records) → (c : Course) (r : Ran) (keys : List ℕ) → Standing (r .count) (r .places) keys
+    → Rising (λ j. j .number) (t .jobs)
+    → OnCourse t c (r .count) (r .places) keys (r .fates) → CourseBy t c r
+at-end t c r keys standing rising on =
+    let ps = take (r .count) (r .places) in
+    let ks = take (r .count) keys in
+    let as-long : length ps ≡ length ks =
+    length-take-le (r .count) (r .places) (omega (arith, standing .places-length, standing .few))
+    ∙ sym (length-take-le (r .count) keys (omega (arith, standing .keys-length, standing .few))) in
+    record {
+      jobs = sym (jobs-of-entries (t .jobs) ps ks as-long) ∙ ap jobsOf (on .plan);
+      planned = λ i h.
+          some-where-first-inside (eqb i) ps
+          ∙ sym (in-plan-where-inside (t .jobs) rising i h ps ks (on .of-jobs) as-long)
+          ∙ ap (inPlan (jobAt t i)) (on .plan);
+      fates = on .fates-by-turn;
+    }

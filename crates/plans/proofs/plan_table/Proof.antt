@@ -1,0 +1,108 @@
+-- `plans::plan_table` meets its contract: what is decided is put into both buffers. Assumes nothing.
+use mathlib.Core.Path.{_≡_, sym, _∙_}
+use Prim.Native.Nat.{_≤_}
+use native.Mathlib.Omega.{arith}
+use lib.ListN.{length, length-map, take}
+use lib.Seq.{length-take-le}
+use Rattle.plans.proofs.Leaving.{buffers-left}
+use Rattle.plans.specs.Promises.{Plannable}
+use Rattle.rules.specs.TableText.{mostJobs, recordsOf}
+use Rattle.rules.specs.declared.Table.{Table}
+use borrow.Author.Needs.{needs}
+use Rattle.plans.proofs.plan_table.Statement.{statement}
+use Rattle.plans.proofs.plan_table.Tie as tie
+
+-- in a valid table the count is that of the jobs
+jobs-counted : (table : Table) → length (table .jobs) ≡ mostJobs → Plannable table
+    → table .«job_count» ≡ length (recordsOf table .jobs)
+unfolding recordsOf
+jobs-counted table all p =
+    sym (length-take-le (table .«job_count») (table .jobs) (omega (arith, all, p .few-jobs)))
+
+all-jobs : (c : tie.Start) → length (c .args .table .jobs) ≡ mostJobs
+all-jobs c = sym (length-map (c .args .table .jobs) _) ∙ c .good .0 .1 .1 .1 .1 .1 .1 .1 .1 .0 .1 .0 .1
+
+all-places : (c : tie.After-decide) → length (c .decide .result .places) ≡ mostJobs
+all-places c = search needs
+
+all-fates : (c : tie.After-decide) → length (c .decide .result .fates) ≡ mostJobs
+all-fates c = search needs
+
+planned-length : (c : tie.After-decide)
+    → length (take (c .decide .result .count) (c .decide .result .places)) ≡ c .decide .result .count
+planned-length c =
+    length-take-le (c .decide .result .count) (c .decide .result .places)
+    (omega (arith, all-places c, c .decide .ensures .placed .few))
+
+fates-length : (c : tie.After-decide)
+    → length (take (c .before .before .before .before .args .table .«job_count») (c .decide .result .fates))
+    ≡ c .before .before .before .before .args .table .«job_count»
+fates-length c =
+    length-take-le (c .before .before .before .before .args .table .«job_count») (c .decide .result .fates)
+    (omega (arith, all-fates c, c .before .before .before .before .pre .0 .few-jobs))
+
+columns-of-requires : tie.Need-columns-of-requires
+columns-of-requires c κs = search needs
+
+decide-requires : tie.Need-decide-requires
+decide-requires c κs = search needs
+
+array-share-prefix-places : tie.Need-array-share-prefix-places
+array-share-prefix-places c =
+    let decided = c .before .before .before in omega (arith, all-places decided, decided .decide .ensures .placed .few)
+
+slice-aggregate-put-order : tie.Need-slice-aggregate-put-order
+slice-aggregate-put-order c = sym (planned-length (c .before .before .before .before))
+
+put-order-requires : tie.Need-put-order-requires
+put-order-requires c κs =
+    let decided = c .before .before .before .before .before .before in
+    let start = c .before .before .before .before .before .before .before .before .before .before in
+    (omega (arith, planned-length decided, decided .decide .ensures .placed .few, start .pre .1), decided .decide .ensures .placed .below)
+
+array-share-prefix-by-job : tie.Need-array-share-prefix-by-job
+array-share-prefix-by-job c =
+    let decided = c .before .before .before .before .before .before .before .before .before .before in
+    omega (arith, all-fates decided, decided .before .before .before .before .pre .0 .few-jobs)
+
+slice-aggregate-put-fates : tie.Need-slice-aggregate-put-fates
+slice-aggregate-put-fates c = sym (fates-length (c .before .before .before .before .before .before .before .before .before .before .before))
+
+put-fates-requires : tie.Need-put-fates-requires
+put-fates-requires c κs =
+    let decided = c .before .before .before .before .before .before .before .before .before .before .before in
+    let start = decided .before .before .before .before in
+    omega (arith, fates-length decided, start .pre .0 .few-jobs, start .pre .2)
+
+same-length : tie.Need-same-length
+same-length c = search needs
+
+same-length-2 : tie.Need-same-length-2
+same-length-2 c = search needs
+
+returns : tie.Need-returns
+returns c =
+    let decided = c .before .before .before .before .before .before .before .before .before .before .before .before .before .before in
+    let start = decided .before .before .before .before in
+    let table = start .args .table in
+    buffers-left (recordsOf table) (decided .decide .result) (decided .before .columns-of .result .number)
+    (decided .decide .ensures) (decided .before .columns-of .ensures .number) (all-places decided) (all-fates decided)
+    (start .pre .0 .valid .few-jobs) (start .args .order .now) (start .args .fates .now)
+    (c .before .before .before .before .before .before .before .put-order .last .0) (c .before .before .put-fates .last .0) (table .«job_count»)
+    (jobs-counted table (all-jobs start) (start .pre .0)) (c .before .before .before .before .before .before .before .put-order .ensures) (c .before .before .put-fates .ensures)
+
+pub plan-table-spec : {M : Type 1} → statement M
+plan-table-spec =
+    tie.close
+    (tie.spec
+    columns-of-requires
+    decide-requires
+    array-share-prefix-places
+    slice-aggregate-put-order
+    put-order-requires
+    array-share-prefix-by-job
+    slice-aggregate-put-fates
+    put-fates-requires
+    same-length
+    same-length-2
+    returns)

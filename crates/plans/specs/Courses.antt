@@ -1,0 +1,29 @@
+-- The course of turns by places: the turns come in an order of places, and the fates stand in a column.
+use mathlib.Core.Bool.{cond}
+use mathlib.Core.List.{List, map}
+use mathlib.Core.Path.{_≡_}
+use Prim.Native.Nat.{ℕ, _<_}
+use lib.ListN.{getD, length, take}
+use Rattle.rules.specs.Plan.{Course, Turn, course, fateDeadlock, fateLate, lateIn, leavesItsRing, ownFate, start, turnOf}
+use Rattle.rules.specs.TableText.{Records, noJob}
+use Rattle.rules.specs.declared.Job.{Job}
+
+-- the job at a place
+abbrev pub jobAt : Records → ℕ → Job
+jobAt t p = getD (t .jobs) p noJob
+
+-- its turn
+abbrev pub turnAt : Records → ℕ → Turn
+turnAt t p = turnOf t (jobAt t p)
+
+-- the course of the first n turns of an order of places
+abbrev pub courseBy : Records → List ℕ → ℕ → Course
+courseBy t order n = course t (map (turnAt t) (take n order)) start
+
+-- the fate of step 1 or 2, or that of the job's own turn, or 0 where it had none
+unfoldable pub fateByTurn : Records → Course → Job → ℕ
+fateByTurn t c j = cond (lateIn t j) fateLate (cond (leavesItsRing t j) fateDeadlock (ownFate j c))
+
+-- at the place of each job such a fate
+abbrev pub FatesByTurn : Records → Course → List ℕ → Type 0
+FatesByTurn t c fates = (i : ℕ) → i < length (t .jobs) → getD fates i 0 ≡ fateByTurn t c (jobAt t i)

@@ -1,0 +1,5 @@
+pub mod Once
+pub mod Members
+pub mod Walked
+pub mod Judged
+pub mod Taken

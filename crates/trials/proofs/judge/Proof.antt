@@ -1,0 +1,42 @@
+-- `trials::judge` meets its contract: its tests are those of the rules, in their order. In the ranges the energy does not
+-- wrap. Assumes nothing.
+use Prim.Native.Nat.{ℕ, _*_, _≤_}
+use native.Mathlib.Nat.{mul-le-mul}
+use native.Mathlib.Omega.{arith}
+use borrow.Author.Needs.{needs}
+use Rattle.rules.specs.TableText.{mostCycles, mostJobs}
+use Rattle.trials.proofs.Judged.{judged-by-tests}
+use Rattle.trials.proofs.judge.Statement.{statement}
+use Rattle.trials.proofs.judge.Tie as tie
+use Rattle.trials.specs.Promises.{mostCost}
+
+small : {sum cost : ℕ} → sum ≤ mostCycles * mostJobs → cost ≤ mostCost → sum * cost ≤ mostCycles * mostJobs * mostCost
+small h l = mul-le-mul h l
+
+in-time-requires : tie.Need-in-time-requires
+in-time-requires c κs = search needs
+
+total-cycles-requires : tie.Need-total-cycles-requires
+total-cycles-requires c κs = search needs
+
+mul-energy : tie.Need-mul-energy
+mul-energy c =
+    let sum = c .before .total-cycles in
+    let start = c .before .before .before .before in
+    let few : sum .result ≤ mostCycles * mostJobs = omega (arith, sum .ensures .at-most, start .pre .summable .few) in
+    omega (arith, small few (start .pre .cost-small))
+
+fate-by-requires : tie.Need-fate-by-requires
+fate-by-requires c κs = search needs
+
+returns : tie.Need-returns
+returns c =
+    let sum = c .before .before .total-cycles in
+    let timed = c .before .before .before .in-time in
+    let args = c .before .before .before .before .before .args in
+    judged-by-tests (args .places .now) (args .cycles .now) (args .termination .now) (args .terms) (timed .result)
+    (timed .ensures) (sum .result) (sum .ensures) (c .fate-by .result) (c .fate-by .ensures)
+
+pub judge-spec : {M : Type 1} → statement M
+judge-spec =
+    tie.close (tie.spec in-time-requires total-cycles-requires mul-energy fate-by-requires returns)

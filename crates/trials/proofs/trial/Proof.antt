@@ -1,0 +1,147 @@
+-- `trials::trial` meets its contract. The job is inserted at its critical time; then, with each step, what the members that
+-- are left make of the plan so far is what all make of the plan with which the walk began. The measure is what is left of
+-- the steps. Assumes nothing.
+use Prim.Native.Nat.{_+_, _-_, _≤_}
+use native.Mathlib.Omega.{arith}
+use borrow.Author.Needs.{needs}
+use Rattle.rules.specs.TableText.{mostHolds}
+use Rattle.trials.proofs.Once.{none-planned, room-for-one-more}
+use Rattle.trials.proofs.Walked.{Walked, begun-stands, over-after-all, over-at-nobody, trial-made, walk-begins}
+use Rattle.trials.proofs.Walked.{walk-goes-on}
+use Rattle.trials.proofs.trial.Statement.{statement}
+use Rattle.trials.proofs.trial.Tie as tie
+
+abbrev Inv-loop : tie.InvT-loop
+Inv-loop places₀ keys₀ count place waits critical limit₀ entries₀ at₀ i₀ places keys limit entries at i =
+    (i ≤ mostHolds)
+    × Walked waits critical places₀ keys₀ limit₀ entries₀ at₀ places keys limit entries at (mostHolds - i)
+
+abbrev μ-loop : tie.MeasureT-loop
+μ-loop places₀ keys₀ count place waits critical limit₀ entries₀ at₀ i₀ places keys limit entries at i = mostHolds - i
+
+mul-limit : tie.Need-mul-limit Inv-loop μ-loop
+mul-limit c = search needs
+
+element-copy-out-limit : tie.Need-element-copy-out-limit Inv-loop μ-loop
+element-copy-out-limit c = search needs
+
+insert-requires : tie.Need-insert-requires Inv-loop μ-loop
+insert-requires c κs =
+    let start = c .before .before .before .before .before in
+    let args = start .args in
+    let standing = start .pre .standing in
+    let new = none-planned (args .count) (args .places .now) (args .keys .now) standing (args .place)
+    (omega (arith, start .pre .not-planned)) in
+    let free = room-for-one-more (args .count) (args .places .now) (args .keys .now) standing (args .place) (start .pre .place-below)
+    new in
+    (omega (arith, standing .places-length), omega (arith, standing .keys-length))
+
+add-entries : tie.Need-add-entries Inv-loop μ-loop
+add-entries c = search needs
+
+mul-at : tie.Need-mul-at Inv-loop μ-loop
+mul-at c = search needs
+
+element-copy-out-at : tie.Need-element-copy-out-at Inv-loop μ-loop
+element-copy-out-at c = search needs
+
+loop-holds : tie.Need-loop-holds Inv-loop μ-loop
+loop-holds c =
+    let inserted = c .before .before .before .before .before in
+    let start = inserted .before .before .before .before .before .before in
+    let args = start .args in
+    let stands = begun-stands (args .count) (args .place) (args .waits .now) (args .critical .now) (args .places .now)
+    (args .keys .now) _ _ (start .pre) (inserted .insert .ensures) in
+    (omega arith, walk-begins _ _ _ _ _ _ _ stands)
+
+same-length : tie.Need-same-length Inv-loop μ-loop
+same-length c = search needs
+
+same-length-2 : tie.Need-same-length-2 Inv-loop μ-loop
+same-length-2 c = search needs
+
+returns : tie.Need-returns Inv-loop μ-loop
+returns c =
+    let loop = c .before .before .loop in
+    let inserted = c .before .before .before .before .before .before .before .before in
+    let start = inserted .before .before .before .before .before .before in
+    let args = start .args in
+    trial-made (args .count) (args .place) (args .waits .now) (args .critical .now) (args .places .now) (args .keys .now)
+    _ _ (start .pre) (inserted .insert .ensures) (loop .places) (loop .keys) (loop .limit) (loop .entries) (loop .at)
+    (mostHolds - loop .i) (loop .inv .1)
+    (over-at-nobody (args .waits .now) (mostHolds - loop .i) (loop .at) (c .if1 .taken))
+
+mul-member : tie.Need-mul-member Inv-loop μ-loop
+mul-member c = search needs
+
+element-copy-out-member : tie.Need-element-copy-out-member Inv-loop μ-loop
+element-copy-out-member c = search needs
+
+member-requires : tie.Need-member-requires Inv-loop μ-loop
+member-requires c κs = search needs
+
+mul-at-2 : tie.Need-mul-at-2 Inv-loop μ-loop
+mul-at-2 c = search needs
+
+element-copy-out-at-2 : tie.Need-element-copy-out-at-2 Inv-loop μ-loop
+element-copy-out-at-2 c = search needs
+
+add-i : tie.Need-add-i Inv-loop μ-loop
+add-i c = search needs
+
+loop-less : tie.Need-loop-less Inv-loop μ-loop
+loop-less c = search needs
+
+loop-again : tie.Need-loop-again Inv-loop μ-loop
+loop-again c =
+    let loop = c .before .before .before .before .before .before .before .before .before .before .before .loop in
+    let stepped = c .before .before .before .before .before .member in (
+      omega arith,
+      walk-goes-on _ _ _ _ _ _ _ (loop .places) (loop .keys) (loop .limit) (loop .entries) (loop .at) (mostHolds - loop .i)
+          (loop .inv .1) _ _ (stepped .result) (mostHolds - (loop .i + 1)) (omega arith) (omega arith) (stepped .ensures),
+    )
+
+same-length-3 : tie.Need-same-length-3 Inv-loop μ-loop
+same-length-3 c = search needs
+
+same-length-4 : tie.Need-same-length-4 Inv-loop μ-loop
+same-length-4 c = search needs
+
+returns-2 : tie.Need-returns-2 Inv-loop μ-loop
+returns-2 c =
+    let loop = c .before .loop in
+    let inserted = c .before .before .before .before .before .before .before in
+    let start = inserted .before .before .before .before .before .before in
+    let args = start .args in
+    trial-made (args .count) (args .place) (args .waits .now) (args .critical .now) (args .places .now) (args .keys .now)
+    _ _ (start .pre) (inserted .insert .ensures) (loop .places) (loop .keys) (loop .limit) (loop .entries) (loop .at)
+    (mostHolds - loop .i) (loop .inv .1)
+    (over-after-all (args .waits .now) (mostHolds - loop .i) (loop .at) (omega arith))
+
+pub trial-spec : {M : Type 1} → statement M
+trial-spec =
+    tie.close
+    (tie.spec
+    Inv-loop
+    μ-loop
+    mul-limit
+    element-copy-out-limit
+    insert-requires
+    add-entries
+    mul-at
+    element-copy-out-at
+    loop-holds
+    same-length
+    same-length-2
+    returns
+    mul-member
+    element-copy-out-member
+    member-requires
+    mul-at-2
+    element-copy-out-at-2
+    add-i
+    loop-less
+    loop-again
+    same-length-3
+    same-length-4
+    returns-2)
