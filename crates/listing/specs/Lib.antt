@@ -1,0 +1,4 @@
+pub mod Pairs
+pub mod Promises
+pub mod Texts
+pub mod Listed
