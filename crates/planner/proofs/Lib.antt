@@ -2,3 +2,4 @@ pub mod Answers
 pub mod Unique
 pub mod Walks
 pub mod Decisions
+pub mod WrongPlanners
