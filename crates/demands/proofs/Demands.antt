@@ -1,70 +1,155 @@
--- The demands over the offered calls. Each speaks of any answer that a call's promise allows, and so of the answer that the
--- call gives; by its `unique` law that is one answer. Assumes nothing.
-use mathlib.Core.List.{List, []}
-use mathlib.Core.Path.{_≡_, refl, sym, ap, _∙_}
+-- The three demands, over the offered calls. Each line speaks of any answer that a call's promise allows, and so of the answer
+-- that the call gives: that it gives one, for every text, table and buffer, is part of its proof. The reasons are in Refused,
+-- Planned, Trips and Unplanned. Assumes nothing.
+use mathlib.Core.Bool.{Bool}
+use mathlib.Core.List.{List, [], _∷_}
+use mathlib.Core.Path.{_≡_}
 use Prim.Native.Nat.{ℕ, _≤_}
-use native.Mathlib.Omega.{arith}
 use contract.Lifetimes.{Lfts}
-use denote.Ref.{RefT}
-use lib.ListN.{drop, length, take}
+use denote.Ref.{RefT, now, ptr}
+use lib.ListN.{length, take}
+use Rattle.costs.proofs.Unique as costs
+use Rattle.cycles.proofs.Unique as cycles
+use Rattle.demands.proofs.Planned.{list-gives, plan-gives, plan-into-gives}
+use Rattle.demands.proofs.Refused.{IsRefusal, list-refused, plan-into-refused, plan-part-refused, plan-refused, read-refused, supplied-refused, write-refused}
+use Rattle.demands.proofs.Trips.{table-again, text-again}
+use Rattle.demands.proofs.Unplanned.{NoneInFront, unplanned-do-not-matter-to-plan-into}
+use Rattle.demands.specs.Plans.{ListedAs, PartBy, PlannedBy}
 use Rattle.demands.specs.Trips.{SameTable, SameText}
-use Rattle.laws.proofs.Trips.{WrittenBack, read-exactly, read-text, table-checked, table-records, written-back, written-read-again}
-use Rattle.laws.proofs.Unique.{reading-unique, refusal-not-0, written-unique}
-use Rattle.reader.proofs.Unique.{Promised as Reads}
-use Rattle.rules.specs.Answers.{Answer, TableAnswer, good, readingSays, writtenSays}
-use Rattle.rules.specs.Refusals.{Taken, check, read, reading, refusedAt, tableAnswer, taken, writing}
-use Rattle.rules.specs.TableText.{Records, recordsOf, tableOf, textOf}
+use Rattle.demands.specs.Unplanned.{SameOutside}
+use Rattle.laws.proofs.Demand3.{Agree, NoneAsksInside, outOf}
+use Rattle.listing.proofs.Unique as listing
+use Rattle.planner.proofs.Unique as planner
+use Rattle.planner.specs.Promises.{PartPromised, PlannedAs}
+use Rattle.planner.specs.declared.Planned.{Planned}
+use Rattle.reader.proofs.Unique as reader
+use Rattle.rules.specs.Listing.{listingOf}
+use Rattle.rules.specs.Plan.{planOf, planning}
+use Rattle.rules.specs.Refusals.{read, taken}
+use Rattle.rules.specs.TableText.{Records, mostJobs, noRecords, tableOf}
+use Rattle.rules.specs.declared.Allocated.{Allocated}
+use Rattle.rules.specs.declared.Decision.{Decision}
 use Rattle.rules.specs.declared.Reading.{Reading}
+use Rattle.rules.specs.declared.Refusal.{Refusal}
+use Rattle.rules.specs.declared.Supplied.{Supplied}
 use Rattle.rules.specs.declared.Table.{Table}
 use Rattle.rules.specs.declared.Verdict.{Verdict}
 use Rattle.rules.specs.declared.Written.{Written}
-use Rattle.writer.proofs.Unique.{Promised as Writes}
+use Rattle.writer.proofs.Unique as writer
 
--- a reading that is done is the table of the records that the rules take
-done-taken : (text : List ℕ) (table : Table) (k : Taken) → read text ≡ k
-    → readingSays (record { verdict = Verdict.Done; table = table }) ≡ tableAnswer k
-    → (r : Records) × (read text ≡ taken r) × (table ≡ tableOf r)
-unfolding tableAnswer
-done-taken text table (taken r) e q = (r, e, ap (λ (a : TableAnswer). a .table) q)
-done-taken text table (refusedAt why line) e q =
-    absurd (refusal-not-0 why (sym (ap (λ (a : TableAnswer). a .answer .number) q)))
+-- DEMAND 1. "A refusal gives its number and line, hands back an empty plan, and every lent buffer still holds what it held."
+-- (The number and the line are in the answer itself: rules/specs/Answers.)
 
-same-text : (text out after : List ℕ) (table : Table) (w : Written)
-    → (r : Records) × (read text ≡ taken r) × (table ≡ tableOf r)
-    → writtenSays w ≡ writing table out .answer → after ≡ writing table out .out → length text ≤ length out
-    → SameText text out after w
-same-text text out after table w (rs, took, stands) answered left room =
-    let same : textOf rs ≡ text = read-text text rs took in
-    let checked : check table ≡ taken rs = rw stands (table-checked (read-exactly text rs .0 took .0)) in
-    let back : WrittenBack rs out (writing table out) = written-back table rs out checked (rw same room) in
-    record {
-      answer = written-unique w (Written.Length (length text)) (answered ∙ back .answer-length ∙ rw same);
-      front = rw left (rw (← same) (back .front));
-      behind = rw left (rw (← same) (back .behind));
-    }
+pub read-hands-back-nothing : (l : Lfts 1) (text : RefT (List ℕ)) (r : Reading) (why : Refusal) (line : ℕ)
+    → reader.Promised l text r → r .verdict ≡ Verdict.Refused why line → r .table ≡ tableOf noRecords
+read-hands-back-nothing = read-refused
 
-module _ (lifetime lifetime' : Lfts 1) where
-  -- Demand 2: what `read` answers, handed to `write` with room.
-  pub text-again : (text : RefT (List ℕ)) (r : Reading) → Reads lifetime text r → r .verdict ≡ Verdict.Done
-      → (out after : RefT (List ℕ)) (w : Written) → Writes lifetime' (r .table) out w after → length (text .now) ≤ length (out .now)
-      → SameText (text .now) (out .now) (after .now) w
-  unfolding reading
-  text-again text r read-it done out after w written-it room =
-      let found = done-taken (text .now) (r .table) (read (text .now)) refl (rw done at read-it) in
-      same-text (text .now) (out .now) (after .now) (r .table) w found (written-it .answer) (written-it .buffer) room
+pub write-changes-nothing : (l : Lfts 1) (t : Table) (out after : RefT (List ℕ)) (why : Refusal) (line : ℕ)
+    → writer.Promised l t out (Written.Refused why line) after → after .now ≡ out .now
+write-changes-nothing = write-refused
 
-  -- Demand 2: what `write` put at the front of the buffer, handed to `read`.
-  pub table-again : (t : Table) (out after : RefT (List ℕ)) (n : ℕ) → Writes lifetime' t out (Written.Length n) after
-      → (text : RefT (List ℕ)) → text .now ≡ take n (after .now) → (r : Reading) → Reads lifetime text r
-      → SameTable t r
-  unfolding reading tableAnswer
-  table-again t out after n written-it text front r read-it =
-      let took : read (text .now) ≡ taken (recordsOf t) =
-      rw front (rw (written-it .buffer) (written-read-again t (out .now) n (sym (written-it .answer)))) in
-      let same : r ≡ record { verdict = Verdict.Done; table = tableOf (recordsOf t) } =
-      reading-unique r (record { verdict = Verdict.Done; table = tableOf (recordsOf t) }) (read-it ∙ rw took) in
-      record {
-        done = ap (λ (a : Reading). a .verdict) same;
-        records = ap (λ (a : Reading). recordsOf (a .table)) same ∙ table-records (recordsOf t);
-        valid = read-exactly (text .now) (recordsOf t) .0 took .0;
-      }
+pub plan-into-changes-nothing : (l : Lfts 3) (text order fates order′ fates′ : RefT (List ℕ)) (why : Refusal) (line : ℕ)
+    → planner.Promised l text order fates (Decision.Refused why line) order′ fates′
+    → (order′ .now ≡ order .now) × (fates′ .now ≡ fates .now)
+plan-into-changes-nothing = plan-into-refused
+
+pub plan-hands-back-nothing : (text order fates : List ℕ) (begin : ℕ × ℕ) (r : Planned) (fates′ : List ℕ) (why : Refusal)
+    (line : ℕ) → PlannedAs text order fates begin r fates′ → r .decision ≡ Decision.Refused why line
+    → (now (r .plan) ≡ []) × (fates′ ≡ fates)
+plan-hands-back-nothing = plan-refused
+
+pub plan-part-hands-back-nothing : (text order fates : List ℕ) (begin : ℕ × ℕ) (part : List ℕ) (at : ℕ × ℕ) (fates′ : List ℕ)
+    → PartPromised text order fates begin part at fates′ → IsRefusal (planning text order fates .answer)
+    → (part ≡ []) × (fates′ ≡ fates)
+plan-part-hands-back-nothing = plan-part-refused
+
+pub list-changes-nothing : (l : Lfts 2) (text out after : RefT (List ℕ)) (why : Refusal) (line : ℕ)
+    → listing.Promised l text out (Written.Refused why line) after
+    → (after .now ≡ out .now) × (Written.Refused why line ≡ Written.Refused Refusal.Room 0)
+list-changes-nothing = list-refused
+
+pub supplied-hands-back-zeros : (model : ℕ) (r : Supplied) (why : Refusal) (line : ℕ) → costs.Promised model r
+    → r .verdict ≡ Verdict.Refused why line → r .costs ≡ 0 ∷ 0 ∷ 0 ∷ 0 ∷ 0 ∷ 0 ∷ 0 ∷ []
+supplied-hands-back-zeros = supplied-refused
+
+-- DEMAND 2. "Plan, fates, speed and energy are those that the rules of document 01 give, no others."
+
+pub plan-into-by-the-rules : (l : Lfts 3) (text order fates order′ fates′ : RefT (List ℕ)) (d : Decision) (t : Records)
+    → planner.Promised l text order fates d order′ fates′ → read (text .now) ≡ taken t
+    → mostJobs ≤ length (order .now) → mostJobs ≤ length (fates .now)
+    → PlannedBy t (order .now) (fates .now) d (order′ .now) (fates′ .now)
+plan-into-by-the-rules = plan-into-gives
+
+pub plan-by-the-rules : (text order fates : List ℕ) (begin : ℕ × ℕ) (r : Planned) (fates′ : List ℕ) (t : Records)
+    → PlannedAs text order fates begin r fates′ → read text ≡ taken t → mostJobs ≤ length order → mostJobs ≤ length fates
+    → PartBy t (length fates) r (now (r .plan)) fates′
+plan-by-the-rules = plan-gives
+
+pub list-by-the-rules : (l : Lfts 2) (text out after : RefT (List ℕ)) (w : Written) → listing.Promised l text out w after
+    → length (listingOf (text .now)) ≤ length (out .now) → ListedAs (listingOf (text .now)) (out .now) (after .now) w
+list-by-the-rules = list-gives
+
+-- "With room to write, a valid text read and written again is the same text, and a valid table written and read again the same
+-- table."
+
+pub read-and-written-again : (l l′ : Lfts 1) (text : RefT (List ℕ)) (r : Reading) → reader.Promised l text r
+    → r .verdict ≡ Verdict.Done → (out after : RefT (List ℕ)) (w : Written) → writer.Promised l′ (r .table) out w after
+    → length (text .now) ≤ length (out .now) → SameText (text .now) (out .now) (after .now) w
+read-and-written-again = text-again
+
+pub written-and-read-again : (l l′ : Lfts 1) (t : Table) (out after : RefT (List ℕ)) (n : ℕ)
+    → writer.Promised l′ t out (Written.Length n) after → (text : RefT (List ℕ)) → text .now ≡ take n (after .now)
+    → (r : Reading) → reader.Promised l text r → SameTable t r
+written-and-read-again = table-again
+
+-- "no others": any two answers that a promise allows are one, and so is what the lent buffers hold
+
+pub one-answer-of-read : (l : Lfts 1) (text : RefT (List ℕ)) (r s : Reading) → reader.Promised l text r
+    → reader.Promised l text s → r ≡ s
+one-answer-of-read = reader.unique
+
+pub one-answer-of-write : (l : Lfts 1) (t : Table) (out a b : RefT (List ℕ)) (r s : Written) → writer.Promised l t out r a
+    → writer.Promised l t out s b → (r ≡ s) × (a .now ≡ b .now)
+one-answer-of-write = writer.unique
+
+pub one-answer-of-plan-into : (l : Lfts 3) (text order fates a b a′ b′ : RefT (List ℕ)) (r s : Decision)
+    → planner.Promised l text order fates r a b → planner.Promised l text order fates s a′ b′
+    → (r ≡ s) × (a .now ≡ a′ .now) × (b .now ≡ b′ .now)
+one-answer-of-plan-into = planner.unique-into
+
+pub one-answer-of-plan : (text order fates : List ℕ) (begin : ℕ × ℕ) (r s : Planned) (b b′ : List ℕ)
+    → PlannedAs text order fates begin r b → PlannedAs text order fates begin s b′
+    → (now (r .plan) ≡ now (s .plan)) × (ptr (r .plan) ≡ ptr (s .plan)) × (r .decision ≡ s .decision) × (b ≡ b′)
+one-answer-of-plan = planner.unique-plan
+
+pub one-answer-of-plan-part : (text order fates : List ℕ) (begin : ℕ × ℕ) (part part′ : List ℕ) (at at′ : ℕ × ℕ)
+    (b b′ : List ℕ) → PartPromised text order fates begin part at b → PartPromised text order fates begin part′ at′ b′
+    → (part ≡ part′) × (at ≡ at′) × (b ≡ b′)
+one-answer-of-plan-part = planner.unique-part
+
+pub one-answer-of-list : (l : Lfts 2) (text out a b : RefT (List ℕ)) (r s : Written) → listing.Promised l text out r a
+    → listing.Promised l text out s b → (r ≡ s) × (a .now ≡ b .now)
+one-answer-of-list = listing.unique
+
+pub one-answer-of-allocate : (mean variance assurance : ℕ) (r s : Allocated) → cycles.Promised mean variance assurance r
+    → cycles.Promised mean variance assurance s → r ≡ s
+one-answer-of-allocate = cycles.unique
+
+pub one-answer-of-supplied : (model : ℕ) (r s : Supplied) → costs.Promised model r → costs.Promised model s → r ≡ s
+one-answer-of-supplied = costs.unique
+
+-- DEMAND 3. "Jobs that are not planned don't matter." Two texts are read as tables that agree in every job outside a set of
+-- numbers, in the resources those jobs hold, and in clock, budget, speeds and costs. In neither a job outside asks for what a
+-- job inside holds, and neither order buffer holds a number of the set among the planned. Then the decisions are one, the order
+-- buffers hold the same, and each job outside has one fate.
+
+pub unplanned-jobs-do-not-matter : (set : ℕ → Bool) (l : Lfts 3)
+    (text text* order order* fates fates* order′ order*′ fates′ fates*′ : RefT (List ℕ)) (d e : Decision) (a b : Records)
+    → planner.Promised l text order fates d order′ fates′ → planner.Promised l text* order* fates* e order*′ fates*′
+    → read (text .now) ≡ taken a → read (text* .now) ≡ taken b
+    → mostJobs ≤ length (order .now) → length (order .now) ≡ length (order* .now)
+    → mostJobs ≤ length (fates .now) → mostJobs ≤ length (fates* .now)
+    → Agree set a b → NoneAsksInside set a → NoneAsksInside set b
+    → NoneInFront set (length (planOf a .jobs)) (order′ .now) → NoneInFront set (length (planOf b .jobs)) (order*′ .now)
+    → SameOutside (outOf set) a b d e (order′ .now) (order*′ .now) (fates′ .now) (fates*′ .now)
+unplanned-jobs-do-not-matter = unplanned-do-not-matter-to-plan-into

@@ -1,1 +1,5 @@
+pub mod Trips
+pub mod Refused
+pub mod Planned
+pub mod Unplanned
 pub mod Demands

@@ -1,1 +1,3 @@
 pub mod Trips
+pub mod Plans
+pub mod Unplanned
