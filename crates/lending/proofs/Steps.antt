@@ -21,7 +21,7 @@ use types.Part.{Part, agg, look-in, sub, whole}
 use types.Run.{Opd, Rv, Walks, addr, and-then, assigns, fld, from, hop, init, load, look, no-more, stop}
 
 -- what a value must be to lie at a type
-abbrev Fits : Ty → Val → Type 0
+abbrev pub Fits : Ty → Val → Type 0
 Fits τ v = Holds (hasTy τ v) × WT v
 
 -- the machine value of a slice of n elements may lie in a local of its type, wherever it points

@@ -1,5 +1,6 @@
 // The things that document 01 speaks of: a table's records, and the answer of each call.
-// What is right is in specs/; here are only the shapes.
+// What is right is in specs/; here are only the shapes. The records are laid out as C lays them out, for callers in C and
+// Rust.
 ghost use mathlib.Core.Path.{_≡_};
 ghost use Rattle.rules.specs.Answers.{numberOf};
 ghost use Rattle.rules.specs.Lists.{within};
@@ -19,12 +20,14 @@ pub fn within(low: u64, high: u64, n: u64) -> bool
 }
 
 // An F line.
+#[repr(C)]
 pub struct Speed {
     pub mhz: u64,
     pub cost: u64,
 }
 
 // A J line.
+#[repr(C)]
 pub struct Job {
     pub number: u64,
     pub cycles: u64,
@@ -35,6 +38,7 @@ pub struct Job {
 }
 
 // An H line.
+#[repr(C)]
 pub struct Hold {
     pub resource: u64,
     pub holder: u64,
@@ -42,6 +46,7 @@ pub struct Hold {
 
 // A whole table: the T line, and of each other letter the first so many places. It may hold anything; which tables are
 // valid is a definition of specs/.
+#[repr(C)]
 pub struct Table {
     pub clock: u64,
     pub budget: u64,

@@ -1,0 +1,65 @@
+-- Any two answers that a promise for C and Rust allows are equal: each of their numbers is the rules', and so is what the lent
+-- buffers hold. Assumes nothing.
+use mathlib.Core.List.{List}
+use mathlib.Core.Path.{_≡_, refl, sym, ap, _∙_}
+use Prim.Native.Nat.{ℕ}
+use Rattle.boundary.specs.Told.{AllocatedAs, CostsAs, ListedAs, PlannedAs, ReadAs, WrittenAs, costsSays, cyclesSays, planSays, tableSays, textSays}
+use Rattle.boundary.specs.declared.CostsAnswer.{CostsAnswer}
+use Rattle.boundary.specs.declared.CyclesAnswer.{CyclesAnswer}
+use Rattle.boundary.specs.declared.PlanAnswer.{PlanAnswer}
+use Rattle.boundary.specs.declared.TableAnswer.{TableAnswer}
+use Rattle.boundary.specs.declared.TextAnswer.{TextAnswer}
+use Rattle.laws.proofs.Unique.{known-by}
+use Rattle.rules.specs.Answers.{Answer}
+use Rattle.rules.specs.TableText.{nth}
+use Rattle.rules.specs.declared.Table.{Table}
+
+-- an answer is known by what it says
+plan-known : (r s : PlanAnswer) → planSays r ≡ planSays s → r ≡ s
+plan-known = known-by planSays (λ a. record {
+  number = a .number;
+  line = a .line;
+  count = nth (a .values) 0;
+  speed = nth (a .values) 1;
+  energy = nth (a .values) 2;
+}) (λ r. refl)
+
+text-known : (r s : TextAnswer) → textSays r ≡ textSays s → r ≡ s
+text-known = known-by textSays (λ a. record { number = a .number; line = a .line; length = nth (a .values) 0 }) (λ r. refl)
+
+cycles-known : (r s : CyclesAnswer) → cyclesSays r ≡ cyclesSays s → r ≡ s
+cycles-known = known-by cyclesSays (λ a. record { number = a .number; line = a .line; cycles = nth (a .values) 0 }) (λ r. refl)
+
+costs-known : (r s : CostsAnswer) → costsSays r ≡ costsSays s → r ≡ s
+costs-known = known-by costsSays (λ a. record { number = a .number; line = a .line; costs = a .values }) (λ r. refl)
+
+table-known : (r s : TableAnswer) → tableSays r ≡ tableSays s → r .table ≡ s .table → r ≡ s
+table-known r s e t =
+    ap (λ (a : Answer). record { number = a .number; line = a .line; table = r .table }) e
+    ∙ ap (λ t. record { number = s .number; line = s .line; table = t }) t
+
+pub plan-unique : (text order fates : List ℕ) (r s : PlanAnswer) (a b a′ b′ : List ℕ) → PlannedAs text order fates r a b
+    → PlannedAs text order fates s a′ b′ → (r ≡ s) × (a ≡ a′) × (b ≡ b′)
+plan-unique text order fates r s a b a′ b′ p q = (
+  plan-known r s (p .answer ∙ sym (q .answer)),
+  p .order-left ∙ sym (q .order-left),
+  p .fates-left ∙ sym (q .fates-left),
+)
+
+pub list-unique : (text out : List ℕ) (r s : TextAnswer) (a b : List ℕ) → ListedAs text out r a → ListedAs text out s b
+    → (r ≡ s) × (a ≡ b)
+list-unique text out r s a b p q = (text-known r s (p .answer ∙ sym (q .answer)), p .out-left ∙ sym (q .out-left))
+
+pub read-unique : (text : List ℕ) (r s : TableAnswer) → ReadAs text r → ReadAs text s → r ≡ s
+read-unique text r s p q = table-known r s (p .answer ∙ sym (q .answer)) (p .table ∙ sym (q .table))
+
+pub write-unique : (table : Table) (out : List ℕ) (r s : TextAnswer) (a b : List ℕ) → WrittenAs table out r a
+    → WrittenAs table out s b → (r ≡ s) × (a ≡ b)
+write-unique table out r s a b p q = (text-known r s (p .answer ∙ sym (q .answer)), p .out-left ∙ sym (q .out-left))
+
+pub allocate-unique : (mean variance assurance : ℕ) (r s : CyclesAnswer) → AllocatedAs mean variance assurance r
+    → AllocatedAs mean variance assurance s → r ≡ s
+allocate-unique mean variance assurance r s p q = cycles-known r s (p .answer ∙ sym (q .answer))
+
+pub costs-unique : (model : ℕ) (r s : CostsAnswer) → CostsAs model r → CostsAs model s → r ≡ s
+costs-unique model r s p q = costs-known r s (p .answer ∙ sym (q .answer))

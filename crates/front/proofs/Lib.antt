@@ -1,0 +1,5 @@
+pub mod Held
+pub mod FirstLine
+pub mod WholeText
+pub mod GoesOn
+pub mod Unique
