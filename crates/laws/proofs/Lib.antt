@@ -47,4 +47,5 @@ pub mod Demand3Needed
 pub mod Fates
 pub mod Testers
 pub mod TestersInstance
+pub mod NotTrue
 pub mod ChainRuns
