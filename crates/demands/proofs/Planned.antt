@@ -55,7 +55,7 @@ front-of-plan : (t : Records) (order fates : List ℕ) → mostJobs ≤ length o
 unfolding partOf leavesPlan
 front-of-plan t order fates h = refl
 
-numbers-length : (t : Records) → length (numbersOf (planOf t .jobs)) ≡ length (planOf t .jobs)
+pub numbers-length : (t : Records) → length (numbersOf (planOf t .jobs)) ≡ length (planOf t .jobs)
 unfolding numbersOf
 numbers-length t = length-map (planOf t .jobs) (λ j. j .number)
 

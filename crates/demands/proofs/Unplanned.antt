@@ -11,20 +11,21 @@ use borrow.Author.Tests.{eqb-true}
 use contract.Lifetimes.{Lfts}
 use denote.Ref.{RefT}
 use lib.Dec.{eqb}
-use lib.ListN.{List·getD-map, getD, length, length-map, take}
+use lib.ListN.{getD, length, length-map, take}
 use lib.Seq.{take-at}
-use Rattle.demands.proofs.Planned.{plan-into-gives}
+use Rattle.demands.proofs.Planned.{numbers-length, plan-into-gives}
 use Rattle.demands.specs.Plans.{PlannedBy}
 use Rattle.demands.specs.Unplanned.{SameOutside}
 use Rattle.laws.proofs.Choices.{one-there, split}
 use Rattle.laws.proofs.Demand3.{Agree, Alike, NoneAsksInside, NonePlanned, outOf, unplanned-do-not-matter}
-use Rattle.laws.proofs.Jobs.{Listed, jobs-listed, same-self}
+use Rattle.laws.proofs.Elements.{each-at-place}
+use Rattle.laws.proofs.Jobs.{Listed, jobs-listed}
 use Rattle.laws.proofs.Lookups.{each-always, each-unmap, find-keep}
 use Rattle.laws.proofs.Outside.{outerFated}
-use Rattle.laws.proofs.Planned.{fates-alone}
+use Rattle.plans.proofs.Leaving.{fates-planned}
 use Rattle.laws.proofs.Trips.{read-exactly}
 use Rattle.planner.proofs.Unique.{Promised as PlansInto}
-use Rattle.rules.specs.Lists.{Each, find, keep, none-left, _and_}
+use Rattle.rules.specs.Lists.{Each, find, keep}
 use Rattle.rules.specs.Plan.{Fated, courseOf, fateIn, fateTold, fatesOf, numbersOf, planFrom, planOf, same}
 use Rattle.rules.specs.Refusals.{read, taken}
 use Rattle.rules.specs.TableText.{Records, mostJobs, noJob, padded}
@@ -36,11 +37,6 @@ front-at : (xs ys : List ℕ) (i : ℕ) → i < length xs → getD (xs ++ ys) i 
 front-at [] ys i h = absurd (omega arith)
 front-at (x ∷ xs) ys zero h = refl
 front-at (x ∷ xs) ys (suc i) h = front-at xs ys i (omega arith)
-
-each-at-place : {P : Job → Type 0} {js : List Job} → Each P js → (i : ℕ) → i < length js → P (getD js i noJob)
-each-at-place none-left i h = absurd (omega arith)
-each-at-place (p and e) zero h = p
-each-at-place (p and e) (suc i) h = each-at-place e i (omega arith)
 
 map-at : (f : Job → ℕ) (js : List Job) (i : ℕ) → i < length js → getD (map f js) i 0 ≡ f (getD js i noJob)
 map-at f [] i h = absurd (omega arith)
@@ -68,20 +64,16 @@ fates-are : (t : Records) → planOf t .fates ≡ map (λ j. record { job = j; f
 unfolding planOf planFrom
 fates-are t = refl
 
-fates-listed : (t : Records) → fatesOf (planOf t .fates) ≡ map (fateIn t (courseOf t)) (t .jobs)
-unfolding planOf planFrom fatesOf
-fates-listed t = fates-alone t (courseOf t) (t .jobs)
-
 -- what stands in the fate buffer at the place of a job
 fate-at : (t : Records) → Valid t → (places i : ℕ) → i < length (t .jobs)
     → getD (padded places 0 (fatesOf (planOf t .fates))) i 0 ≡ fateOf (getD (t .jobs) i noJob .number) (planOf t .fates)
 fate-at t v places i h =
-    front-at (fatesOf (planOf t .fates)) _ i (omega (arith, ap length (fates-listed t), length-map (t .jobs) (fateIn t (courseOf t))))
-    ∙ ap (λ fs. getD fs i 0) (fates-listed t)
+    front-at (fatesOf (planOf t .fates)) _ i (omega (arith, ap length (fates-planned t), length-map (t .jobs) (fateIn t (courseOf t))))
+    ∙ ap (λ fs. getD fs i 0) (fates-planned t)
     ∙ map-at (fateIn t (courseOf t)) (t .jobs) i h
     ∙ sym
     (ap (fateOf (getD (t .jobs) i noJob .number)) (fates-are t)
-    ∙ found-beside (fateIn t (courseOf t)) (t .jobs) (getD (t .jobs) i noJob) (each-at-place (jobs-listed t v) i h))
+    ∙ found-beside (fateIn t (courseOf t)) (t .jobs) (getD (t .jobs) i noJob) (each-at-place noJob (jobs-listed t v) i h))
 
 module _ (set : ℕ → Bool) where
   -- a fate outside is found among those outside
@@ -95,10 +87,6 @@ module _ (set : ℕ → Bool) where
   -- no number of the set stands in the front part of an order buffer
   abbrev pub NoneInFront : ℕ → List ℕ → Type 0
   NoneInFront count order = Each (λ n. outOf set n ≡ true) (take count order)
-
-  numbers-length : (t : Records) → length (numbersOf (planOf t .jobs)) ≡ length (planOf t .jobs)
-  unfolding numbersOf
-  numbers-length t = length-map (planOf t .jobs) (λ j. j .number)
 
   none-planned : (t : Records) (places : ℕ) → NoneInFront (length (planOf t .jobs)) (padded places 0 (numbersOf (planOf t .jobs)))
       → NonePlanned set t

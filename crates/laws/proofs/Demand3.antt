@@ -132,7 +132,7 @@ module _ (out : ℕ → Bool) where
         fates = sym (x .fates) ∙ ap (λ t. planOf t .fates) e ∙ y .fates;
       }
 
--- Demand 3 in the mission's words, for a set of job numbers.
+-- Demand 3 as it is demanded, for a set of job numbers.
 module _ (set : ℕ → Bool) where
   abbrev pub outOf : ℕ → Bool
   outOf n = not (set n)

@@ -3,9 +3,9 @@
 use mathlib.Core.Bool.{true, false, false≢true}
 use mathlib.Core.List.{List, [], _∷_, _++_, map}
 use mathlib.Core.Path.{_≡_, refl}
-use Prim.Native.Nat.{ℕ, _+_, _≤_, _<_}
+use Prim.Native.Nat.{ℕ, zero, suc, _+_, _≤_, _<_}
 use native.Mathlib.Omega.{arith}
-use lib.ListN.{length, length-append}
+use lib.ListN.{getD, length, length-append}
 use Rattle.rules.specs.Lists.{Each, Rising, empty, lastOr, none-left, no-element, one-element, _and_, _below_}
 
 module _ {A : Type 0} where
@@ -23,6 +23,11 @@ module _ {A : Type 0} where
   pub each-at : {P : A → Type 0} (front : List A) (x : A) (rest : List A) → Each P (front ++ x ∷ rest) → P x
   each-at [] x rest (p and ps) = p
   each-at (y ∷ front) x rest (p and ps) = each-at front x rest ps
+
+  pub each-at-place : {P : A → Type 0} {xs : List A} (d : A) → Each P xs → (i : ℕ) → i < length xs → P (getD xs i d)
+  each-at-place d none-left i h = absurd (omega arith)
+  each-at-place d (p and ps) zero h = p
+  each-at-place d (p and ps) (suc i) h = each-at-place d ps i (omega arith)
 
   pub rising-more : {f : A → ℕ} (d : A) {x : A} {xs : List A} → Rising f xs → f (lastOr d xs) < f x → Rising f (xs ++ x ∷ [])
   rising-more d no-element h = one-element

@@ -110,7 +110,8 @@ first-turn-only-excluded keeps =
     omega
     (arith, first-of-S, ap (λ (a : AfterPlanning). nth (a .answer .values) 0) (keeps (textWith 2500000000) marked marked ∙ left-of-S))
 
--- 5. "one that makes up the energy or the count": the rules' answer with a number of its own, which of case S is another
+-- 5. "one that makes up the energy or the count": the rules' answer with a number of its own, which for
+-- some text and buffers is another than the rules'
 abbrev pub madeUp : (ℕ → List ℕ → List ℕ) → (List ℕ → ℕ) → Planner
 madeUp put number text order fates =
     let a = planning text order fates in
@@ -127,11 +128,12 @@ withCount n values = n ∷ nth values 1 ∷ nth values 2 ∷ []
 abbrev pub withEnergy : ℕ → List ℕ → List ℕ
 withEnergy n values = nth values 0 ∷ nth values 1 ∷ n ∷ []
 
-pub made-up-count-excluded : (count : List ℕ → ℕ) → (count (textWith 2500000000) ≡ 3 → ⊥) → Keeps (madeUp withCount count) → ⊥
-made-up-count-excluded count other keeps =
-    other (ap (λ (a : AfterPlanning). nth (a .answer .values) 0) (keeps (textWith 2500000000) marked marked ∙ left-of-S))
+pub made-up-count-excluded : (count : List ℕ → ℕ) (text order fates : List ℕ)
+    → (count text ≡ nth (planning text order fates .answer .values) 0 → ⊥) → Keeps (madeUp withCount count) → ⊥
+made-up-count-excluded count text order fates other keeps =
+    other (ap (λ (a : AfterPlanning). nth (a .answer .values) 0) (keeps text order fates))
 
-pub made-up-energy-excluded : (energy : List ℕ → ℕ) → (energy (textWith 2500000000) ≡ 2500000000 → ⊥)
-    → Keeps (madeUp withEnergy energy) → ⊥
-made-up-energy-excluded energy other keeps =
-    other (ap (λ (a : AfterPlanning). nth (a .answer .values) 2) (keeps (textWith 2500000000) marked marked ∙ left-of-S))
+pub made-up-energy-excluded : (energy : List ℕ → ℕ) (text order fates : List ℕ)
+    → (energy text ≡ nth (planning text order fates .answer .values) 2 → ⊥) → Keeps (madeUp withEnergy energy) → ⊥
+made-up-energy-excluded energy text order fates other keeps =
+    other (ap (λ (a : AfterPlanning). nth (a .answer .values) 2) (keeps text order fates))

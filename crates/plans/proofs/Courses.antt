@@ -3,7 +3,7 @@
 use mathlib.Core.Bool.{Bool, true, false, cond}
 use mathlib.Core.List.{List, [], _∷_, _++_, map}
 use mathlib.Core.Path.{_≡_, refl, sym, ap, _∙_}
-use Prim.Native.Nat.{ℕ, zero, suc, _+_, _≤_, _<_}
+use Prim.Native.Nat.{ℕ, _+_, _<_}
 use native.Mathlib.Numerals.{add-one}
 use native.Mathlib.Omega.{arith}
 use borrow.Author.Tests.{eqb-false, eqb-true}
@@ -12,12 +12,12 @@ use lib.ListN.{getD, length, set, take}
 use lib.Seq.{getD-set-other, getD-set-same, take-suc}
 use Rattle.chains.specs.Stage.{FatesSoFar, fateSoFar}
 use Rattle.laws.proofs.Choices.{split}
-use Rattle.laws.proofs.Elements.{map-append}
-use Rattle.laws.proofs.Jobs.{Listed, jobs-listed, left-on-time, left-stays, listed-has}
+use Rattle.laws.proofs.Elements.{each-at-place, map-append}
+use Rattle.laws.proofs.Jobs.{jobs-listed, left-on-time, left-stays, listed-has}
 use Rattle.laws.proofs.Numbered.{same-place}
 use Rattle.laws.proofs.Planned.{planned-left}
 use Rattle.plans.specs.Courses.{FatesByTurn, courseBy, fateByTurn, jobAt, turnAt}
-use Rattle.rules.specs.Lists.{Each, Rising, find, none-left, _and_}
+use Rattle.rules.specs.Lists.{Rising}
 use Rattle.rules.specs.Plan.{Course, Entry, Fated, Outcome, Turn, after, course, courseOf, fateDeadlock, fateIn, fateLate, fatePlanned, fateTold, inPlan, lateIn, leavesItsRing, ownFate, same, start, turn, turnOf}
 use Rattle.rules.specs.TableText.{Records, noJob}
 use Rattle.rules.specs.Valid.{Valid}
@@ -94,11 +94,6 @@ pub fates-at-start : (t : Records) (fates : List ℕ) → FatesSoFar t fates →
 unfolding fateByTurn fateSoFar ownFate fateTold start
 fates-at-start t fates e i h = e i h
 
-each-at-place : {P : Job → Type 0} {js : List Job} → Each P js → (i : ℕ) → i < length js → P (getD js i noJob)
-each-at-place none-left i h = absurd (omega arith)
-each-at-place (p and e) zero h = p
-each-at-place (p and e) (suc i) h = each-at-place e i (omega arith)
-
 planned-by : (late ring planned : Bool) (own : ℕ) → (planned ≡ true → (late ≡ false) × (ring ≡ false))
     → cond planned fatePlanned (cond late fateLate (cond ring fateDeadlock own))
     ≡ cond late fateLate (cond ring fateDeadlock (cond planned fatePlanned own))
@@ -112,5 +107,5 @@ unfolding fateByTurn fateIn
 fates-at-end t v i h =
     let j = jobAt t i in
     planned-by (lateIn t j) (leavesItsRing t j) (inPlan j (courseOf t .plan)) (ownFate j (courseOf t))
-    (λ p. let k = planned-left t v j (each-at-place (jobs-listed t v) i h) p in
+    (λ p. let k = planned-left t v j (each-at-place noJob (jobs-listed t v) i h) p in
     (listed-has (left-on-time t) k, listed-has (left-stays t) k))

@@ -10,10 +10,11 @@ use Rattle.columns.proofs.Ranges.{ColumnsInRange, columns-in-range}
 use Rattle.columns.specs.Columns.{ColumnsOf, TermsOf}
 use Rattle.columns.specs.declared.Columns.{Columns}
 use Rattle.columns.specs.declared.Terms.{Terms}
+use Rattle.laws.proofs.Elements.{each-at-place}
 use Rattle.laws.proofs.Ranges.{HoldRanges, SpeedRanges, clock-ranges, hold-ranges, speed-ranges}
 use Rattle.plans.specs.Promises.{Concludable, Placed, Plannable, Runnable}
 use Rattle.plans.specs.declared.Course.{Course as Ran}
-use Rattle.rules.specs.Lists.{Each, lastOr, none-left, _and_}
+use Rattle.rules.specs.Lists.{Each, lastOr}
 use Rattle.rules.specs.Plan.{topOf}
 use Rattle.rules.specs.TableText.{Record, Records, inRange, mostHolds, mostJobs, mostSpeeds, noHold, noSpeed, recordsOf}
 use Rattle.rules.specs.declared.Hold.{Hold}
@@ -32,11 +33,6 @@ module _ {A : Type 0} where
   last-of-first d [] (suc n) m h = absurd (omega arith)
   last-of-first d (x ∷ xs) (suc n) m h =
       let e : suc n - 1 ≡ n = omega arith in rw e (last-behind x d xs n (omega arith))
-
-  each-at-place : {P : A → Type 0} {xs : List A} (d : A) → Each P xs → (i : ℕ) → i < length xs → P (getD xs i d)
-  each-at-place d none-left i h = absurd (omega arith)
-  each-at-place d (p and e) zero h = p
-  each-at-place d (p and e) (suc i) h = each-at-place d e i (omega arith)
 
   -- what each of the first n has, that at each of their places has
   each-of-first : {P : A → Type 0} (d : A) (xs : List A) (n : ℕ) → n ≤ length xs → Each P (take n xs) → (i : ℕ) → i < n
@@ -138,3 +134,10 @@ module _ (table : Table) (p : Plannable table) (all-speeds : length (table .spee
       termination-small = ranges .termination;
       clock-small = clock-in-range;
     }
+
+-- in a valid table the count is that of the jobs
+pub jobs-counted : (table : Table) → length (table .jobs) ≡ mostJobs → Plannable table
+    → table .«job_count» ≡ length (recordsOf table .jobs)
+unfolding recordsOf
+jobs-counted table all p =
+    sym (length-take-le (table .«job_count») (table .jobs) (omega (arith, all, p .few-jobs)))

@@ -33,7 +33,7 @@ front-of-column f (j ∷ js) [] h e = absurd (omega arith)
 front-of-column f (j ∷ js) (x ∷ xs) h e =
     rw (e 0 (omega arith), front-of-column f js xs (omega arith) (λ i l. e (suc i) (omega arith)))
 
-fates-planned : (t : Records) → fatesOf (planOf t .fates) ≡ map (fateIn t (courseOf t)) (t .jobs)
+pub fates-planned : (t : Records) → fatesOf (planOf t .fates) ≡ map (fateIn t (courseOf t)) (t .jobs)
 unfolding planOf planFrom fatesOf
 fates-planned t = fates-alone t (courseOf t) (t .jobs)
 

@@ -23,10 +23,7 @@ use Rattle.rules.specs.declared.Decision.{Decision}
 use Rattle.rules.specs.declared.Hold.{Hold}
 use Rattle.rules.specs.declared.Speed.{Speed}
 use Rattle.rules.specs.declared.Table.{Table}
-
--- The end of the range of a cost.
-abbrev pub mostCost : ℕ
-mostCost = 4000000
+use Rattle.trials.specs.Promises.{mostCost}
 
 -- What the course of turns asks: a turn count, places, columns, clock, speed and cost in their ranges.
 pub record Takeable (order : List ℕ) (turn-count : ℕ) (cycles termination : List ℕ) (terms : Terms) : Type 0 where

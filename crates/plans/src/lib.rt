@@ -79,9 +79,9 @@ fn take_turns<'a>(
         i += 1;
     }
     Course {
-        places: places,
-        count: count,
-        fates: fates,
+        places,
+        count,
+        fates,
     }
 }
 

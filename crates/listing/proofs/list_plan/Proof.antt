@@ -14,7 +14,8 @@ use Rattle.laws.proofs.Ranges.{clock-ranges}
 use Rattle.listing.proofs.Listed.{decided-text, fits, no-room, speed-in-range}
 use Rattle.listing.specs.Promises.{Finishable}
 use Rattle.listing.specs.Texts.{planText}
-use Rattle.plans.specs.Promises.{DecidedAs, Plannable}
+use Rattle.plans.proofs.Deciding.{jobs-counted}
+use Rattle.plans.specs.Promises.{DecidedAs}
 use Rattle.plans.specs.declared.Decided.{Decided}
 use Rattle.rules.specs.Listing.{planLines}
 use Rattle.rules.specs.Plan.{planOf}
@@ -25,13 +26,6 @@ use Rattle.rules.specs.declared.Table.{Table}
 use borrow.Author.Needs.{needs}
 use Rattle.listing.proofs.list_plan.Statement.{statement}
 use Rattle.listing.proofs.list_plan.Tie as tie
-
--- in a valid table the count is that of the jobs
-jobs-counted : (table : Table) → length (table .jobs) ≡ mostJobs → Plannable table
-    → table .«job_count» ≡ length (recordsOf table .jobs)
-unfolding recordsOf
-jobs-counted table all p =
-    sym (length-take-le (table .«job_count») (table .jobs) (omega (arith, all, p .few-jobs)))
 
 clock-small : (table : Table) → Valid (recordsOf table) → table .clock ≤ mostTime
 unfolding recordsOf

@@ -9,7 +9,7 @@ use lib.ListN.{length, take}
 use lib.Seq.{length-take-le}
 use Rattle.entries.specs.Promises.{Summable}
 use Rattle.plans.proofs.Concluding.{steps-8-and-9}
-use Rattle.plans.specs.Promises.{Placed, mostCost}
+use Rattle.plans.specs.Promises.{Placed}
 use Rattle.rules.specs.TableText.{mostCycles, mostJobs}
 use borrow.Author.Needs.{needs}
 use Rattle.plans.proofs.conclude.Statement.{statement}

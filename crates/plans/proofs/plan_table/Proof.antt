@@ -4,20 +4,12 @@ use Prim.Native.Nat.{_≤_}
 use native.Mathlib.Omega.{arith}
 use lib.ListN.{length, length-map, take}
 use lib.Seq.{length-take-le}
+use Rattle.plans.proofs.Deciding.{jobs-counted}
 use Rattle.plans.proofs.Leaving.{buffers-left}
-use Rattle.plans.specs.Promises.{Plannable}
 use Rattle.rules.specs.TableText.{mostJobs, recordsOf}
-use Rattle.rules.specs.declared.Table.{Table}
 use borrow.Author.Needs.{needs}
 use Rattle.plans.proofs.plan_table.Statement.{statement}
 use Rattle.plans.proofs.plan_table.Tie as tie
-
--- in a valid table the count is that of the jobs
-jobs-counted : (table : Table) → length (table .jobs) ≡ mostJobs → Plannable table
-    → table .«job_count» ≡ length (recordsOf table .jobs)
-unfolding recordsOf
-jobs-counted table all p =
-    sym (length-take-le (table .«job_count») (table .jobs) (omega (arith, all, p .few-jobs)))
 
 all-jobs : (c : tie.Start) → length (c .args .table .jobs) ≡ mostJobs
 all-jobs c = sym (length-map (c .args .table .jobs) _) ∙ c .good .0 .1 .1 .1 .1 .1 .1 .1 .1 .0 .1 .0 .1
