@@ -11,18 +11,25 @@ use denote.Ref.{RefT, now}
 use lib.ListN.{drop, length, length-map, take}
 use lib.Seq.{take-at}
 use Rattle.demands.specs.Plans.{ListedAs, PlannedBy, PartBy}
-use Rattle.laws.proofs.Unique.{decision-unique, written-unique}
+use Rattle.laws.proofs.Trips.{WithinPlaces, check-exactly, written-back}
+use Rattle.laws.proofs.Unique.{decision-unique, reading-unique, written-unique}
 use Rattle.listing.proofs.Unique.{Promised as Lists}
 use Rattle.planner.proofs.Unique.{Promised as PlansInto}
-use Rattle.planner.specs.Promises.{PlannedAs}
+use Rattle.planner.specs.Promises.{PartPromised, PlannedAs}
 use Rattle.planner.specs.declared.Planned.{Planned}
 use Rattle.rules.specs.Answers.{Answer, good}
 use Rattle.rules.specs.Listing.{linesFor, listing, listingOf, planLines}
 use Rattle.rules.specs.Plan.{AfterPlanning, fatesOf, leavesOf, leavesPlan, numbersOf, partOf, planOf, planning, tooSmall}
-use Rattle.rules.specs.Refusals.{AfterWriting, read, taken, written}
-use Rattle.rules.specs.TableText.{Records, mostJobs, nth, padded}
+use Rattle.reader.proofs.Unique.{Promised as Reads}
+use Rattle.rules.specs.Refusals.{AfterWriting, read, reading, tableAnswer, taken, written}
+use Rattle.rules.specs.TableText.{Records, mostJobs, nth, padded, recordsOf, tableOf, textOf}
+use Rattle.rules.specs.Valid.{Valid}
 use Rattle.rules.specs.declared.Decision.{Decision}
+use Rattle.rules.specs.declared.Reading.{Reading}
+use Rattle.rules.specs.declared.Table.{Table}
+use Rattle.rules.specs.declared.Verdict.{Verdict}
 use Rattle.rules.specs.declared.Written.{Written}
+use Rattle.writer.proofs.Unique.{Promised as Writes}
 
 has-room : (buffer : List ℕ) → mostJobs ≤ length buffer → tooSmall buffer ≡ false
 unfolding tooSmall
@@ -95,3 +102,34 @@ list-gives lifetimes text out after w promise h =
         → written lines out
         ≡ record { answer = good (length lines ∷ []); out = lines ++ drop (length lines) out }
     fits lines out h = rw (le-leb (length lines) (length out) h)
+
+-- `plan_part`
+pub plan-part-gives : (text order fates : List ℕ) (begin : ℕ × ℕ) (part : List ℕ) (at : ℕ × ℕ) (fates′ : List ℕ) (t : Records)
+    → PartPromised text order fates begin part at fates′ → read text ≡ taken t → mostJobs ≤ length order
+    → mostJobs ≤ length fates
+    → (part ≡ numbersOf (planOf t .jobs)) × (fates′ ≡ padded (length fates) 0 (fatesOf (planOf t .fates)))
+unfolding leavesPlan
+plan-part-gives text order fates begin part at fates′ t promise e h l =
+    let same = planning-taken text order fates t e h l in (
+      promise .plan
+          ∙ ap partOf same
+          ∙ front-of-plan t order fates h
+          ∙ take-at (numbersOf (planOf t .jobs)) _ (length (planOf t .jobs)) (numbers-length t),
+      promise .fates-left ∙ ap (λ (a : AfterPlanning). a .fates) same,
+    )
+
+-- `read`: the table of the records
+pub read-gives : (lifetime : Lfts 1) (text : RefT (List ℕ)) (r : Reading) (t : Records) → Reads lifetime text r
+    → read (text .now) ≡ taken t → r ≡ record { verdict = Verdict.Done; table = tableOf t }
+unfolding reading tableAnswer
+read-gives lifetime text r t promise e =
+    reading-unique r (record { verdict = Verdict.Done; table = tableOf t }) (promise ∙ rw e)
+
+-- `write`: a valid table with room is written
+pub write-gives : (lifetime : Lfts 1) (t : Table) (out after : RefT (List ℕ)) (w : Written) → Writes lifetime t out w after
+    → WithinPlaces t → Valid (recordsOf t) → length (textOf (recordsOf t)) ≤ length (out .now)
+    → w ≡ Written.Length (length (textOf (recordsOf t)))
+write-gives lifetime t out after w promise within valid room =
+    let checked = check-exactly t (recordsOf t) .1 (valid, refl, within) in
+    written-unique w (Written.Length (length (textOf (recordsOf t))))
+    (promise .answer ∙ written-back t (recordsOf t) (out .now) checked room .answer-length)

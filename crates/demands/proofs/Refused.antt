@@ -2,15 +2,17 @@
 -- and hands back nothing. Each law speaks of any answer that the call's promise allows. Assumes nothing.
 use mathlib.Core.Bool.{Bool, true, false, cond, _||_}
 use mathlib.Core.List.{List, [], _∷_}
+use mathlib.Core.Logic.{_⊎_, ⊎-elim}
 use mathlib.Core.Path.{_≡_, refl, sym, ap, _∙_}
-use Prim.Native.Nat.{ℕ, _-_}
+use Prim.Native.Nat.{ℕ, _-_, _≤_, _<_}
+use borrow.Author.Tests.{le-ltb, lt-ltb}
 use contract.Lifetimes.{Lfts}
 use denote.Ref.{RefT, now}
 use lib.Dec.{leb}
 use lib.ListN.{getD, length, take}
 use Rattle.costs.proofs.Unique.{Promised as Supplies}
 use Rattle.laws.proofs.Choices.{split}
-use Rattle.laws.proofs.Unique.{refusal-not-0, written-unique}
+use Rattle.laws.proofs.Unique.{decision-unique, reading-unique, refusal-not-0, written-unique}
 use Rattle.listing.proofs.Unique.{Promised as Lists}
 use Rattle.planner.proofs.Unique.{Promised as PlansInto}
 use Rattle.planner.specs.Promises.{PartPromised, PlannedAs}
@@ -22,7 +24,7 @@ use Rattle.rules.specs.Lists.{within}
 use Rattle.rules.specs.Listing.{listing, listingOf}
 use Rattle.rules.specs.Plan.{AfterPlanning, leavesAll, leavesOf, leavesPlan, partOf, planning, tooSmall}
 use Rattle.rules.specs.Refusals.{AfterWriting, Taken, check, read, reading, refusedAt, refusedOut, tableAnswer, taken, writing, written, writtenOf}
-use Rattle.rules.specs.TableText.{noRecords, nth, tableOf}
+use Rattle.rules.specs.TableText.{mostJobs, noRecords, nth, tableOf}
 use Rattle.rules.specs.declared.Decision.{Decision}
 use Rattle.rules.specs.declared.Reading.{Reading}
 use Rattle.rules.specs.declared.Refusal.{Refusal}
@@ -158,3 +160,55 @@ supplied-refused model r why line promise e =
     ap (λ (a : Answer). a .values) says
     ∙ supplied-by (within 1 3 model) (good (getD costRows (model - 1) [])) (0 ∷ 0 ∷ 0 ∷ 0 ∷ 0 ∷ 0 ∷ 0 ∷ []) refl
     (λ zero. refusal-not-0 why (ap (λ (a : Answer). a .number) says ∙ zero))
+
+-- WHICH refusal: that of the rules. A buffer that is too small comes before the text.
+
+small-room : (buffer : List ℕ) → length buffer < mostJobs → tooSmall buffer ≡ true
+unfolding tooSmall
+small-room buffer h = lt-ltb (length buffer) mostJobs h
+
+room : (buffer : List ℕ) → mostJobs ≤ length buffer → tooSmall buffer ≡ false
+unfolding tooSmall
+room buffer h = le-ltb (length buffer) mostJobs h
+
+either-true : (b : Bool) → b || true ≡ true
+either-true true = refl
+either-true false = refl
+
+decided-as : (lifetimes : Lfts 3) (text order fates order′ fates′ : RefT (List ℕ)) (d : Decision) (why : Refusal) (line : ℕ)
+    → PlansInto lifetimes text order fates d order′ fates′
+    → planning (text .now) (order .now) (fates .now) ≡ leavesAll why line (order .now) (fates .now)
+    → d ≡ Decision.Refused why line
+unfolding leavesAll
+decided-as lifetimes text order fates order′ fates′ d why line promise e =
+    decision-unique d (Decision.Refused why line) (ap (λ (a : AfterPlanning). a .answer) (promise ∙ e))
+
+pub plan-into-no-room : (lifetimes : Lfts 3) (text order fates order′ fates′ : RefT (List ℕ)) (d : Decision)
+    → PlansInto lifetimes text order fates d order′ fates′
+    → (length (order .now) < mostJobs) ⊎ (length (fates .now) < mostJobs) → d ≡ Decision.Refused Refusal.Room 0
+unfolding planning
+plan-into-no-room lifetimes text order fates order′ fates′ d promise small =
+    decided-as lifetimes text order fates order′ fates′ d Refusal.Room 0 promise
+    (⊎-elim (λ (h : length (order .now) < mostJobs). rw (small-room (order .now) h))
+    (λ (h : length (fates .now) < mostJobs). rw (small-room (fates .now) h) (rw (either-true (tooSmall (order .now))))) small)
+
+pub plan-into-refused-as : (lifetimes : Lfts 3) (text order fates order′ fates′ : RefT (List ℕ)) (d : Decision) (why : Refusal)
+    (line : ℕ) → PlansInto lifetimes text order fates d order′ fates′ → mostJobs ≤ length (order .now)
+    → mostJobs ≤ length (fates .now) → read (text .now) ≡ refusedAt why line → d ≡ Decision.Refused why line
+unfolding planning leavesOf
+plan-into-refused-as lifetimes text order fates order′ fates′ d why line promise h l e =
+    decided-as lifetimes text order fates order′ fates′ d why line promise
+    (rw (room (order .now) h) (rw (room (fates .now) l) (rw e)))
+
+pub read-refused-as : (lifetime : Lfts 1) (text : RefT (List ℕ)) (r : Reading) (why : Refusal) (line : ℕ)
+    → Reads lifetime text r → read (text .now) ≡ refusedAt why line
+    → r ≡ record { verdict = Verdict.Refused why line; table = tableOf noRecords }
+unfolding reading tableAnswer
+read-refused-as lifetime text r why line promise e =
+    reading-unique r (record { verdict = Verdict.Refused why line; table = tableOf noRecords }) (promise ∙ rw e)
+
+pub write-refused-as : (lifetime : Lfts 1) (t : Table) (out after : RefT (List ℕ)) (w : Written) (why : Refusal) (line : ℕ)
+    → Writes lifetime t out w after → check t ≡ refusedAt why line → w ≡ Written.Refused why line
+unfolding writing writtenOf refusedOut
+write-refused-as lifetime t out after w why line promise e =
+    written-unique w (Written.Refused why line) (promise .answer ∙ rw e)
