@@ -1,0 +1,84 @@
+// Runs document 01's sheet of examples, starred or not, and cases of our own, and prints one report, held to `stdout`. Each
+// case is a line with its name, and then what the calls answered.
+//
+// An argument names a report and a table of data/, as `list:S`:
+// - `list`: the listing, as the program prints it.
+// - `plan`: `plan_into`, `plan_part` and `plan`, each with the whole of both marked buffers afterwards.
+// - `room`: `plan_into`, `list` and `write` with as many places as they need, and with one fewer.
+// - `text`: the table read and written again.
+// - `bent`: the table with its records or counts made wrong, and written.
+// - `head`: the first line alone, as the box's front end reads it.
+// Then come the cycles to allocate and the supplied costs, by number.
+//
+// A buffer is marked before it is lent, so that what a call leaves alone shows its mark. What the calls promise is proved of
+// them; of what a program prints no contract can speak, and so the report is compared.
+mod again;
+mod bent;
+mod head;
+mod leaves;
+mod plan;
+mod report;
+mod room;
+
+use report::put;
+
+// No text that is tried is longer.
+const MOST_READ: usize = 8192;
+
+// The four letters of the report and the colon.
+const REPORT: usize = 5;
+
+// The listing, in a buffer that has room for every one.
+fn list(text: &[u8]) {
+    let mut lines = [0u8; 1200];
+    let listed = listing::list(text, &mut lines);
+    report::put_listing(listed, &lines);
+}
+
+// The report that begins with the letter.
+fn run(letter: u8, text: &[u8]) {
+    match letter {
+        b'l' => list(text),
+        b'p' => plan::all_three(text),
+        b'r' => room::each_call(text),
+        b't' => again::read_and_write(text),
+        b'b' => bent::each_way(text),
+        b'h' => head::first_line(text),
+        _ => put(b"no such report\n"),
+    }
+}
+
+// The case of a file.
+fn run_file(letter: u8, path: &[u8]) {
+    let fd = os::open_read(path);
+    if fd < 0 {
+        os::fail(path);
+        return;
+    }
+    let mut text = [0u8; MOST_READ];
+    let count = io::read_full(fd, &mut text);
+    libc::close(fd);
+    run(letter, &text[..count]);
+}
+
+// The case that an argument names.
+fn run_argument(i: usize) {
+    let mut name = io::buffer();
+    let count = os::arg(i, &mut name);
+    if os::errno() != 0 || count < REPORT {
+        os::fail(b"argument");
+        return;
+    }
+    report::put_name(&name[..count]);
+    let letter = name[0];
+    run_file(letter, &name[REPORT..count]);
+}
+
+fn main() {
+    let count = os::arg_count();
+    for i in 1..count {
+        run_argument(i);
+    }
+    leaves::allocations();
+    leaves::costs();
+}
