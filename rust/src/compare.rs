@@ -1,0 +1,141 @@
+//! The library held against the reference: the same calls to both, and everything that comes back compared, the lent
+//! buffers place by place.
+
+use crate::generate::{self, Random};
+use crate::library::{by_reference, Answer, Library, Request};
+use crate::reference::{self, Table, LONGEST_LISTING, LONGEST_TEXT, MOST_ASSURANCE, MOST_MEAN, MOST_VARIANCE};
+
+/// How many cases are put to the library at once.
+const BATCH: u64 = 64;
+
+/// What was compared: cases, calls, and how many answers had each number, 0 for none refused.
+#[derive(Clone, Debug, Default, PartialEq, Eq)]
+pub struct Tally {
+    pub cases: u64,
+    pub calls: u64,
+    pub numbers: [u64; 11],
+}
+
+impl Tally {
+    pub fn add(&mut self, other: &Tally) {
+        self.cases += other.cases;
+        self.calls += other.calls;
+        self.numbers.iter_mut().zip(other.numbers).for_each(|(number, more)| *number += more);
+    }
+}
+
+/// Compares the cases from one index up to another; a difference is given as it is to be printed.
+pub fn cases(library: &mut Library, seed: u64, from: u64, to: u64) -> Result<Tally, String> {
+    let mut tally = Tally::default();
+    for first in (from..to).step_by(BATCH as usize) {
+        let batch = first..to.min(first + BATCH);
+        let calls: Vec<(u64, Request)> =
+            batch.flat_map(|index| case(seed, index).into_iter().map(move |request| (index, request))).collect();
+        let (indices, requests): (Vec<u64>, Vec<Request>) = calls.into_iter().unzip();
+        let told = requests_of(library, &requests)
+            .map_err(|(at, difference)| format!("seed {seed}, index {}: {difference}", indices[at]))?;
+        tally.add(&Tally { cases: to.min(first + BATCH) - first, ..told });
+    }
+    Ok(tally)
+}
+
+/// Compares any requests; a difference is given with the place of its request.
+pub fn requests_of(library: &mut Library, requests: &[Request]) -> Result<Tally, (usize, String)> {
+    let mut tally = Tally::default();
+    for (at, (request, given)) in requests.iter().zip(library.answers(requests)).enumerate() {
+        let expected = by_reference(request);
+        if given != expected {
+            return Err((at, difference(request, &expected, &given)));
+        }
+        tally.calls += 1;
+        tally.numbers[given.number() as usize] += 1;
+    }
+    Ok(tally)
+}
+
+/// The calls of one case: a valid table read, planned, listed and written; a damaged text read, listed and planned; a
+/// rough table written; an allocation and a cost model.
+pub fn case(seed: u64, index: u64) -> Vec<Request> {
+    let random = &mut Random::new(seed, index ^ 1 << 63);
+    let table = generate::table(seed, index);
+    let text = generate::text_of(&table);
+    let damaged = generate::damaged_text(seed, index);
+    let rough = generate::rough_table(seed, index);
+    let (order, fates) = filled_buffers(random);
+    let (short_order, short_fates) = generate::buffers(seed, index);
+    vec![
+        Request::Read { text: text.clone() },
+        Request::Plan { text: text.clone(), order, fates },
+        listing(random, &text),
+        writing(random, &table),
+        Request::Read { text: damaged.clone() },
+        listing(random, &damaged),
+        Request::Plan { text: damaged, order: short_order, fates: short_fates },
+        writing(random, &rough),
+        allocation(random),
+        Request::Costs { model: if random.chance(80) { random.below(6) } else { random.number() } },
+    ]
+}
+
+/// Two buffers that are long enough, full of anything.
+fn filled_buffers(random: &mut Random) -> (Vec<u64>, Vec<u64>) {
+    let (order, fates) = (random.one_of(&[64, 64, 65, 100]), random.one_of(&[64, 64, 65, 100]));
+    let mut filled = |length: u64| (0..length).map(|_| random.number()).collect();
+    (filled(order), filled(fates))
+}
+
+/// A buffer full of anything for a text of this length: as long, longer, shorter, or empty.
+fn room(random: &mut Random, needed: usize, longest: usize) -> Vec<u8> {
+    let length = match random.below(8) {
+        0 => needed.saturating_sub(1),
+        1 => needed + 1,
+        2 => random.below(needed as u64 + 1) as usize,
+        3 => longest,
+        4 => random.one_of(&[0, 1, longest + 1000]),
+        _ => needed,
+    };
+    let anything = random.number().to_le_bytes();
+    anything.into_iter().cycle().take(length).collect()
+}
+
+pub fn listing(random: &mut Random, text: &[u8]) -> Request {
+    let needed = reference::list(text, &mut [0; LONGEST_LISTING]).unwrap_or(LONGEST_LISTING);
+    Request::List { text: text.to_vec(), out: room(random, needed, LONGEST_LISTING) }
+}
+
+pub fn writing(random: &mut Random, table: &Table) -> Request {
+    let needed = reference::write(table, &mut [0; LONGEST_TEXT]).unwrap_or(LONGEST_TEXT);
+    Request::Write { table: Box::new(*table), out: room(random, needed, LONGEST_TEXT) }
+}
+
+/// An allocation inside the ranges, at their ends or outside.
+pub fn allocation(random: &mut Random) -> Request {
+    let mut number = |most: u64| match random.below(8) {
+        0 => most,
+        1 => most + 1,
+        2 => 0,
+        3 => random.number(),
+        4 => random.below(10),
+        5 => random.below(most / 1000 + 1),
+        _ => random.below(most + 1),
+    };
+    Request::Allocate { mean: number(MOST_MEAN), variance: number(MOST_VARIANCE), assurance: number(MOST_ASSURANCE) }
+}
+
+/// A request with both answers, the table as its text.
+fn difference(request: &Request, expected: &Answer, given: &Answer) -> String {
+    let call = match request {
+        Request::Plan { text, order, fates } => {
+            format!("plan into {} and {} places of\n{}", order.len(), fates.len(), String::from_utf8_lossy(text))
+        }
+        Request::List { text, out } => format!("list into {} bytes\n{}", out.len(), String::from_utf8_lossy(text)),
+        Request::Read { text } => format!("read\n{}", String::from_utf8_lossy(text)),
+        Request::Write { table, out } => {
+            let counts = (table.speed_count, table.job_count, table.hold_count);
+            let text = generate::text_of(table);
+            format!("write, counts {counts:?}, into {} bytes\n{}", out.len(), String::from_utf8_lossy(&text))
+        }
+        other => format!("{other:?}\n"),
+    };
+    format!("{call}expected: {expected:?}\ngiven:    {given:?}")
+}
