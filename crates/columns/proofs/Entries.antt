@@ -6,18 +6,12 @@ use mathlib.Core.Path.{_≡_, refl, ap}
 use Prim.Native.Nat.{ℕ, zero, suc, _+_, _≤_, _<_}
 use native.Mathlib.Numerals.{add-one}
 use native.Mathlib.Omega.{arith}
-use lib.ListN.{length, getD, getElem?, drop, drop-of-length-le, take}
-use lib.Seq.{drop-cons, getD-take, length-take-le}
-use Rattle.columns.specs.Columns.{AllBelow, entriesIn, entryAt, jobsAt}
+use lib.ListN.{length, getD, getElem?, drop, drop-of-length-le}
+use lib.Seq.{drop-cons}
+use Rattle.columns.specs.Columns.{entriesIn, entryAt, jobsAt}
 use Rattle.rules.specs.Plan.{jobsOf}
 use Rattle.rules.specs.TableText.{noJob}
 use Rattle.rules.specs.declared.Job.{Job}
-
--- fewer places are below what all are below
-pub front-below : (n m : ℕ) (ps : List ℕ) → m ≤ length ps → AllBelow n ps → AllBelow n (take m ps)
-front-below n m ps h all i l =
-    let k : i < m = omega (arith, length-take-le m ps h) in
-    rw (getD-take m ps i 0 k) (all i (omega arith))
 
 module _ (js : List Job) where
   pub jobs-of-entries : (ps ks : List ℕ) → length ps ≡ length ks → jobsOf (entriesIn js ps ks) ≡ jobsAt js ps

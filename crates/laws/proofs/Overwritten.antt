@@ -5,18 +5,13 @@ use mathlib.Core.Path.{_≡_, refl, ap}
 use Prim.Native.Nat.{ℕ, zero, suc, _+_, _≤_, _<_}
 use native.Mathlib.Numerals.{add-one}
 use native.Mathlib.Omega.{arith}
-use lib.ListN.{length, take, drop, getD, set, drop-of-length-le, length-append, length-take, length-drop}
+use lib.ListN.{length, take, drop, getD, set, drop-of-length-le}
 use lib.Seq.{take-all}
 
 module _ {A : Type 0} where
   -- the new list up to place i, the old one from there on
   abbrev pub overwritten : List A → List A → ℕ → List A
   overwritten new old i = take i new ++ drop i old
-
-  pub length-overwritten : (new old : List A) (i : ℕ) → i ≤ length new → i ≤ length old
-      → length (overwritten new old i) ≡ length old
-  length-overwritten new old i h l =
-      omega (arith, length-append (take i new) (drop i old), length-take i new, length-drop i old)
 
   -- from the seam on stands what stood
   pub not-overwritten : (new old : List A) (i k : ℕ) (d : A) → i ≤ k → i ≤ length new → i ≤ length old

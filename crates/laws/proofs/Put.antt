@@ -6,7 +6,7 @@ use Prim.Native.Nat.{ℕ, _+_, _-_, _≤_, _<_}
 use native.Mathlib.Nat.{add-zero, zero-add, add-assoc}
 use native.Mathlib.Numerals.{add-one}
 use native.Mathlib.Omega.{arith}
-use lib.ListN.{length, take, drop, set, length-append, length-drop, take-append-drop}
+use lib.ListN.{length, take, drop, set, length-append, take-append-drop}
 use lib.Seq.{length-take-le, take-at, drop-append-add, set-split, drop-drop}
 use Rattle.laws.specs.Put.{put}
 
@@ -24,14 +24,6 @@ put-byte s at b h = rw (add-one at) (sym (set-split s at b h))
 pub put-at-front : (s text : List ℕ) → put s 0 text ≡ text ++ drop (length text) s
 unfolding put
 put-at-front s text = rw (zero-add (length text))
-
--- the buffer keeps its length
-pub length-put : (s : List ℕ) (at : ℕ) (text : List ℕ) → at + length text ≤ length s → length (put s at text) ≡ length s
-unfolding put
-length-put s at text room =
-    let front : length (take at s) ≡ at = length-take-le at s (omega arith) in
-    rw (length-append (take at s) (text ++ drop (at + length text) s), length-append text (drop (at + length text) s), length-drop (at + length text) s, front)
-    (omega arith)
 
 -- one text put behind another is both put at once
 pub put-behind : (s : List ℕ) (at : ℕ) (a b : List ℕ) → at ≤ length s
