@@ -1,5 +1,5 @@
-//! The proved library, with the types of `reference`: linked on x86-64, and asked of a server process elsewhere. Who
-//! calls it does not see which.
+//! The proved library, with the types of `reference`: linked on x86-64 or with the feature `native`, and asked of a
+//! server process elsewhere. Who calls it does not see which.
 
 use crate::reference::{self, Plan, Refused, Table};
 use crate::served::Server;

@@ -4,7 +4,7 @@ use mathlib.Core.Path.{_≡_, refl}
 use Prim.Native.Nat.{ℕ}
 use Rattle.boundary.specs.Numbers.{textAnswer, toldOf}
 use Rattle.boundary.specs.Told.{textSays}
-use Rattle.rules.specs.Answers.{Answer, verdictSays, writtenSays}
+use Rattle.rules.specs.Answers.{verdictSays, writtenSays}
 use Rattle.rules.specs.declared.Verdict.{Verdict}
 use Rattle.rules.specs.declared.Written.{Written}
 

@@ -1,5 +1,4 @@
 -- An enum's case as numbers: 0 and 0 where nothing is refused.
-use Prim.Native.Nat.{ℕ}
 use Rattle.boundary.specs.declared.TextAnswer.{TextAnswer}
 use Rattle.boundary.specs.declared.Told.{Told}
 use Rattle.rules.specs.Answers.{numberOf}

@@ -1,8 +1,7 @@
 -- The jobs that a step leaves are those whose fate is 0 after it. Assumes nothing.
 use mathlib.Core.Bool.{Bool, true, false, cond, not, _&&_}
 use mathlib.Core.List.{List, [], _∷_}
-use mathlib.Core.Path.{_≡_, refl, ap, _∙_}
-use Prim.Native.Nat.{ℕ}
+use mathlib.Core.Path.{_≡_, refl, _∙_}
 use lib.Dec.{eqb}
 use Rattle.chains.specs.Stage.{fateIfLate, fateSoFar}
 use Rattle.rules.specs.Lists.{keep}

@@ -3,7 +3,7 @@
 use mathlib.Core.List.{List, [], _∷_, map}
 use mathlib.Core.Path.{_≡_}
 use Prim.Native.Nat.{ℕ, _≤_, _<_}
-use lib.ListN.{getD, length, set}
+use lib.ListN.{getD, length}
 use Rattle.columns.specs.declared.Columns.{Columns}
 use Rattle.columns.specs.declared.Terms.{Terms}
 use Rattle.rules.specs.Plan.{Entry, topOf}

@@ -5,7 +5,7 @@ use mathlib.Core.Path.{_≡_, sym, ap, _∙_}
 use Prim.Native.Nat.{ℕ, _≤_}
 use native.Mathlib.Omega.{arith}
 use borrow.Author.Tests.{le-leb}
-use lib.ListN.{drop, length, length-append, take}
+use lib.ListN.{drop, length, length-append}
 use lib.Seq.{take-at}
 use Rattle.cuddlelamb.specs.Program.{FrontOf, ListedAs}
 use Rattle.cuddlelamb.specs.declared.Input.{Input}

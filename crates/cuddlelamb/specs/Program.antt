@@ -1,8 +1,8 @@
 -- What the program's functions promise. Of the bytes that a call of the C library reads or writes no promise can speak.
 use mathlib.Core.List.{List}
 use mathlib.Core.Path.{_≡_}
-use Prim.Native.Nat.{ℕ, _≤_}
-use lib.ListN.{length, take}
+use Prim.Native.Nat.{ℕ}
+use lib.ListN.{take}
 use Rattle.cuddlelamb.specs.declared.Input.{Input}
 use Rattle.io.specs.Counts.{Counts}
 use Rattle.rules.specs.Listing.{listingOf}

@@ -1,11 +1,9 @@
 -- Demand 2 over the calls: what `plan_into`, `plan` and `list` answer is what the rules give for the table that the text is read
 -- as, in both buffers, to the last place. Each law speaks of any answer that the call's promise allows. Assumes nothing.
-use mathlib.Core.Bool.{Bool, true, false, cond, _||_}
 use mathlib.Core.List.{List, [], _∷_, _++_}
-use mathlib.Core.Path.{_≡_, refl, sym, ap, _∙_}
+use mathlib.Core.Path.{_≡_, refl, ap, _∙_}
 use Prim.Native.Nat.{ℕ, _≤_}
-use native.Mathlib.Omega.{arith}
-use borrow.Author.Tests.{le-leb, le-ltb}
+use borrow.Author.Tests.{le-leb}
 use contract.Lifetimes.{Lfts}
 use denote.Ref.{RefT, now}
 use lib.ListN.{drop, length, length-map, take}
@@ -14,15 +12,16 @@ use Rattle.demands.specs.Plans.{ListedAs, PlannedBy, PartBy}
 use Rattle.laws.proofs.Trips.{WithinPlaces, check-exactly, written-back}
 use Rattle.laws.proofs.Unique.{decision-unique, reading-unique, written-unique}
 use Rattle.listing.proofs.Unique.{Promised as Lists}
+use Rattle.planner.proofs.Decisions.{room}
 use Rattle.planner.proofs.Unique.{Promised as PlansInto}
 use Rattle.planner.specs.Promises.{PartPromised, PlannedAs}
 use Rattle.planner.specs.declared.Planned.{Planned}
-use Rattle.rules.specs.Answers.{Answer, good}
-use Rattle.rules.specs.Listing.{linesFor, listing, listingOf, planLines}
-use Rattle.rules.specs.Plan.{AfterPlanning, fatesOf, leavesOf, leavesPlan, numbersOf, partOf, planOf, planning, tooSmall}
+use Rattle.rules.specs.Answers.{good}
+use Rattle.rules.specs.Listing.{listing, listingOf}
+use Rattle.rules.specs.Plan.{AfterPlanning, fatesOf, leavesOf, leavesPlan, numbersOf, partOf, planOf, planning}
 use Rattle.reader.proofs.Unique.{Promised as Reads}
 use Rattle.rules.specs.Refusals.{AfterWriting, read, reading, tableAnswer, taken, written}
-use Rattle.rules.specs.TableText.{Records, mostJobs, nth, padded, recordsOf, tableOf, textOf}
+use Rattle.rules.specs.TableText.{Records, mostJobs, padded, recordsOf, tableOf, textOf}
 use Rattle.rules.specs.Valid.{Valid}
 use Rattle.rules.specs.declared.Decision.{Decision}
 use Rattle.rules.specs.declared.Reading.{Reading}
@@ -31,15 +30,11 @@ use Rattle.rules.specs.declared.Verdict.{Verdict}
 use Rattle.rules.specs.declared.Written.{Written}
 use Rattle.writer.proofs.Unique.{Promised as Writes}
 
-has-room : (buffer : List ℕ) → mostJobs ≤ length buffer → tooSmall buffer ≡ false
-unfolding tooSmall
-has-room buffer h = le-ltb (length buffer) mostJobs h
-
 -- the rules plan a text that is read, where both buffers have room
 pub planning-taken : (text order fates : List ℕ) (t : Records) → read text ≡ taken t → mostJobs ≤ length order
     → mostJobs ≤ length fates → planning text order fates ≡ leavesPlan (planOf t) order fates
 unfolding planning leavesOf
-planning-taken text order fates t e h l = rw (has-room order h) (rw (has-room fates l) (rw e))
+planning-taken text order fates t e h l = rw (room order h) (rw (room fates l) (rw e))
 
 -- `plan_into`
 pub plan-into-gives : (lifetimes : Lfts 3) (text order fates order′ fates′ : RefT (List ℕ)) (d : Decision) (t : Records)

@@ -5,7 +5,6 @@ use mathlib.Core.List.{List, [], _∷_}
 use mathlib.Core.Logic.{_⊎_, ⊎-elim}
 use mathlib.Core.Path.{_≡_, refl, sym, ap, _∙_}
 use Prim.Native.Nat.{ℕ, _-_, _≤_, _<_}
-use borrow.Author.Tests.{le-ltb, lt-ltb}
 use contract.Lifetimes.{Lfts}
 use denote.Ref.{RefT, now}
 use lib.Dec.{leb}
@@ -14,6 +13,7 @@ use Rattle.costs.proofs.Unique.{Promised as Supplies}
 use Rattle.laws.proofs.Choices.{split}
 use Rattle.laws.proofs.Unique.{decision-unique, reading-unique, refusal-not-0, written-unique}
 use Rattle.listing.proofs.Unique.{Promised as Lists}
+use Rattle.planner.proofs.Decisions.{either-true, room, too-small}
 use Rattle.planner.proofs.Unique.{Promised as PlansInto}
 use Rattle.planner.specs.Promises.{PartPromised, PlannedAs}
 use Rattle.planner.specs.declared.Planned.{Planned}
@@ -163,18 +163,6 @@ supplied-refused model r why line promise e =
 
 -- WHICH refusal: that of the rules. A buffer that is too small comes before the text.
 
-small-room : (buffer : List ℕ) → length buffer < mostJobs → tooSmall buffer ≡ true
-unfolding tooSmall
-small-room buffer h = lt-ltb (length buffer) mostJobs h
-
-room : (buffer : List ℕ) → mostJobs ≤ length buffer → tooSmall buffer ≡ false
-unfolding tooSmall
-room buffer h = le-ltb (length buffer) mostJobs h
-
-either-true : (b : Bool) → b || true ≡ true
-either-true true = refl
-either-true false = refl
-
 decided-as : (lifetimes : Lfts 3) (text order fates order′ fates′ : RefT (List ℕ)) (d : Decision) (why : Refusal) (line : ℕ)
     → PlansInto lifetimes text order fates d order′ fates′
     → planning (text .now) (order .now) (fates .now) ≡ leavesAll why line (order .now) (fates .now)
@@ -189,8 +177,8 @@ pub plan-into-no-room : (lifetimes : Lfts 3) (text order fates order′ fates′
 unfolding planning
 plan-into-no-room lifetimes text order fates order′ fates′ d promise small =
     decided-as lifetimes text order fates order′ fates′ d Refusal.Room 0 promise
-    (⊎-elim (λ (h : length (order .now) < mostJobs). rw (small-room (order .now) h))
-    (λ (h : length (fates .now) < mostJobs). rw (small-room (fates .now) h) (rw (either-true (tooSmall (order .now))))) small)
+    (⊎-elim (λ (h : length (order .now) < mostJobs). rw (too-small (order .now) h))
+    (λ (h : length (fates .now) < mostJobs). rw (too-small (fates .now) h) (rw (either-true (tooSmall (order .now))))) small)
 
 pub plan-into-refused-as : (lifetimes : Lfts 3) (text order fates order′ fates′ : RefT (List ℕ)) (d : Decision) (why : Refusal)
     (line : ℕ) → PlansInto lifetimes text order fates d order′ fates′ → mostJobs ≤ length (order .now)

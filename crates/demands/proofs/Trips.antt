@@ -1,17 +1,16 @@
 -- Both round trips of demand 2 over the calls. Each law speaks of any answer that a call's promise allows, and so of the
 -- answer that the call gives. Assumes nothing.
-use mathlib.Core.List.{List, []}
+use mathlib.Core.List.{List}
 use mathlib.Core.Path.{_≡_, refl, sym, ap, _∙_}
 use Prim.Native.Nat.{ℕ, _≤_}
-use native.Mathlib.Omega.{arith}
 use contract.Lifetimes.{Lfts}
 use denote.Ref.{RefT}
-use lib.ListN.{drop, length, take}
+use lib.ListN.{length, take}
 use Rattle.demands.specs.Trips.{SameTable, SameText}
 use Rattle.laws.proofs.Trips.{WrittenBack, read-exactly, read-text, table-checked, table-records, written-back, written-read-again}
 use Rattle.laws.proofs.Unique.{reading-unique, refusal-not-0, written-unique}
 use Rattle.reader.proofs.Unique.{Promised as Reads}
-use Rattle.rules.specs.Answers.{Answer, TableAnswer, good, readingSays, writtenSays}
+use Rattle.rules.specs.Answers.{TableAnswer, readingSays, writtenSays}
 use Rattle.rules.specs.Refusals.{Taken, check, read, reading, refusedAt, tableAnswer, taken, writing}
 use Rattle.rules.specs.TableText.{Records, recordsOf, tableOf, textOf}
 use Rattle.rules.specs.declared.Reading.{Reading}

@@ -1,9 +1,9 @@
 -- Demand 3 over the calls: jobs that are not planned do not matter to what `plan_into` answers. Two texts are read as tables
 -- that agree outside a set of job numbers; neither order buffer holds a number of the set. Then the decisions are one, the
 -- order buffers hold the same, and each job outside has one fate. Assumes nothing.
-use mathlib.Core.Bool.{Bool, true, false, cond}
+use mathlib.Core.Bool.{Bool, true}
 use mathlib.Core.List.{List, [], _∷_, _++_, map}
-use mathlib.Core.Option.{Option, none, some}
+use mathlib.Core.Option.{none, some}
 use mathlib.Core.Path.{_≡_, refl, sym, ap, _∙_}
 use Prim.Native.Nat.{ℕ, zero, suc, _≤_, _<_}
 use native.Mathlib.Omega.{arith}
@@ -14,7 +14,6 @@ use lib.Dec.{eqb}
 use lib.ListN.{getD, length, length-map, take}
 use lib.Seq.{take-at}
 use Rattle.demands.proofs.Planned.{numbers-length, plan-into-gives}
-use Rattle.demands.specs.Plans.{PlannedBy}
 use Rattle.demands.specs.Unplanned.{SameOutside}
 use Rattle.laws.proofs.Choices.{one-there, split}
 use Rattle.laws.proofs.Demand3.{Agree, Alike, NoneAsksInside, NonePlanned, outOf, unplanned-do-not-matter}

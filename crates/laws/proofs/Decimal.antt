@@ -1,7 +1,7 @@
 -- What is written of a number: the digits of its tenth, and one more, so each law goes by the digits before the last.
 -- Below 10 ^ 20 nothing is cut off, and below 10 ^ 16 it is read again as that number. Assumes nothing.
 use mathlib.Core.Path.{_≡_, refl, sym, ap, _∙_}
-use mathlib.Core.Bool.{Bool, true, false, false≢true, _&&_, and-false}
+use mathlib.Core.Bool.{Bool, true, false, false≢true, and-false}
 use mathlib.Core.List.{List, [], _∷_, _++_}
 use mathlib.Core.Option.{some}
 use Prim.Native.Nat.{ℕ, zero, suc, _+_, _-_, _*_, _/_, _%_, _^_, _≤_, _<_}

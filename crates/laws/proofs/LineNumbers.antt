@@ -1,7 +1,7 @@
 -- The numbers of a text's first line, field by field: digits ended by a tab are one field, digits ended by the line feed the
 -- last, and digits ended otherwise are no number, so the line holds none. So a reader that takes one number after the other
 -- meets the numbers that the line holds, and their count. Assumes nothing.
-use mathlib.Core.Path.{_≡_, refl, sym, _∙_, ap}
+use mathlib.Core.Path.{_≡_, refl}
 use mathlib.Core.Bool.{Bool, true, false, cond, not, _&&_, and-false, and-true}
 use mathlib.Core.List.{List, [], _∷_, _++_, append-nil}
 use mathlib.Core.Option.{Option, none, some}

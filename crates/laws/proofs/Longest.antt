@@ -21,11 +21,11 @@ use Rattle.rules.specs.declared.Job.{Job}
 use Rattle.rules.specs.declared.Hold.{Hold}
 
 -- A line: its letter and line feed, and for each number a tab and its digits.
-abbrev withDigits : List ℕ → ℕ
+abbrev pub withDigits : List ℕ → ℕ
 withDigits [] = 2
 withDigits (n ∷ ns) = 1 + length (digitsOf n) + withDigits ns
 
-line-length : (letter : ℕ) (ns : List ℕ) → length (lineText letter ns) ≡ withDigits ns
+pub line-length : (letter : ℕ) (ns : List ℕ) → length (lineText letter ns) ≡ withDigits ns
 unfolding lineText
 line-length letter ns = go ns
   where
@@ -36,7 +36,7 @@ line-length letter ns = go ns
         omega
         (arith, go ns, length-append (digitsOf n ++ more) (lineFeed ∷ []), length-append (digitsOf n) more, length-append more (lineFeed ∷ []))
 
-digits : (k n : ℕ) → k < 20 → n < 10 ^ suc k → length (digitsOf n) ≤ suc k
+pub digits : (k n : ℕ) → k < 20 → n < 10 ^ suc k → length (digitsOf n) ≤ suc k
 digits k n a h = digitsOf-length (suc k) n (omega arith) a h
 
 clock-length : (clock budget : ℕ) → inRange (Record.T clock budget) ≡ true → length (recordText (Record.T clock budget)) ≤ 30

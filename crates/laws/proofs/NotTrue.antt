@@ -1,6 +1,6 @@
 -- What is not true of the rules, each with a table that shows it. Nobody may rely on these, and no promise says them. antt
 -- computes the plans; each table is one that the reader takes. Assumes nothing.
-use mathlib.Core.Bool.{true, false}
+use mathlib.Core.Bool.{false}
 use mathlib.Core.List.{[], _∷_}
 use mathlib.Core.Path.{_≡_, refl}
 use Prim.Native.Nat.{ℕ}

@@ -1,6 +1,6 @@
 -- A valid table without the jobs of a set, and without what they hold, is valid: what is left rises and is in range as it
 -- was, and a hold that is left has its holder left. So it can be read, written and planned. Assumes nothing.
-use mathlib.Core.Bool.{Bool, true, false}
+use mathlib.Core.Bool.{Bool, true}
 use mathlib.Core.Path.{_≡_, ap, _∙_}
 use Prim.Native.Nat.{ℕ}
 use native.Mathlib.Omega.{arith}
@@ -13,8 +13,6 @@ use Rattle.rules.specs.Lists.{Each, any, keep}
 use Rattle.rules.specs.Refusals.{asksOwn, isHolder}
 use Rattle.rules.specs.TableText.{Records}
 use Rattle.rules.specs.Valid.{Valid}
-use Rattle.rules.specs.declared.Hold.{Hold}
-use Rattle.rules.specs.declared.Job.{Job}
 
 module _ (out : ℕ → Bool) (t : Records) (v : Valid t) where
   holders-left : Each (λ h. any (isHolder h) (keep (outerJob out) (t .jobs)) ≡ true) (keep (outerHold out) (t .holds))

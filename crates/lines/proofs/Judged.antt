@@ -2,14 +2,13 @@
 -- nothing.
 use mathlib.Core.List.{List}
 use mathlib.Core.Option.{Option}
-use mathlib.Core.Path.{_≡_, refl, sym, ap, _∙_}
+use mathlib.Core.Path.{_≡_, sym, _∙_}
 use Prim.Native.Nat.{ℕ}
 use lib.ListN.{length}
 use Rattle.columns.specs.Columns.{Column}
 use Rattle.records.proofs.Faults.{clock-fault, hold-fault, job-fault, speed-fault}
 use Rattle.records.proofs.LookedUp.{holder-fault-looked-up}
 use Rattle.records.specs.Faults.{clockFault, holdFault, jobFault, lookedUp, speedFault}
-use Rattle.records.specs.Standing.{standingOf}
 use Rattle.records.specs.declared.Holder.{Holder}
 use Rattle.records.specs.declared.Standing.{Standing}
 use Rattle.rules.specs.Refusals.{Before, faultOf}

@@ -2,12 +2,11 @@
 -- Assumes nothing.
 use mathlib.Core.Bool.{true, false, false≢true}
 use mathlib.Core.List.{List}
-use mathlib.Core.Option.{Option, none, some}
-use mathlib.Core.Path.{_≡_, refl, sym, ap, _∙_}
+use mathlib.Core.Option.{none, some}
+use mathlib.Core.Path.{_≡_, refl, sym}
 use Prim.Native.Nat.{ℕ}
 use native.Mathlib.Omega.{arith}
-use Rattle.rules.specs.Refusals.{Before, Item, accept, bad, faultOf, judged, one, refusedFor}
-use Rattle.rules.specs.TableText.{Record}
+use Rattle.rules.specs.Refusals.{Before, Item, accept, bad, judged, one, refusedFor}
 use Rattle.rules.specs.declared.Refusal.{Refusal}
 use Rattle.text.specs.Lines.{LineRead, isRefused, itemOf, refusedLineOr}
 use Rattle.text.specs.declared.Cursor.{Cursor}

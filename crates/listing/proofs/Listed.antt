@@ -1,8 +1,8 @@
 -- What `list` writes is the rules' listing: the lines that the pairs stand for are the plan's, a refusal's line is the
 -- refusal's, and both stand at the front of the buffer where there is room. Assumes nothing.
-use mathlib.Core.Bool.{true, false}
+use mathlib.Core.Bool.{true}
 use mathlib.Core.List.{List}
-use mathlib.Core.Path.{_≡_, refl, sym, ap, _∙_}
+use mathlib.Core.Path.{_≡_, refl}
 use Prim.Native.Nat.{ℕ, _≤_, _<_}
 use borrow.Author.Tests.{le-leb, lt-leb}
 use lib.ListN.{getD, length}
@@ -16,16 +16,13 @@ use Rattle.listing.specs.Listed.{wrote}
 use Rattle.listing.specs.Promises.{FatePairs, OrderPairs}
 use Rattle.listing.specs.Texts.{planText, refusalText}
 use Rattle.listing.specs.declared.Pairs.{Pairs}
-use Rattle.plans.specs.Promises.{DecidedAs}
-use Rattle.plans.specs.declared.Decided.{Decided}
 use Rattle.rules.specs.Answers.{numberOf}
 use Rattle.rules.specs.Listing.{linesFor, listing, listingOf, planLine, planLines}
 use Rattle.rules.specs.Plan.{courseOf, fateIn, planFrom, planOf, qualifies}
-use Rattle.rules.specs.Refusals.{AfterWriting, read, refusedAt, refusedOut, taken, written}
+use Rattle.rules.specs.Refusals.{read, refusedAt, refusedOut, taken, written}
 use Rattle.rules.specs.TableText.{Record, Records, inRange, noJob}
 use Rattle.rules.specs.Valid.{Valid}
 use Rattle.rules.specs.declared.Refusal.{Refusal}
-use Rattle.rules.specs.declared.Speed.{Speed}
 use Rattle.rules.specs.declared.Written.{Written}
 
 -- the chosen speed is one of the table's

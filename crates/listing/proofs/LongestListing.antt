@@ -4,7 +4,7 @@
 use mathlib.Core.Bool.{true}
 use mathlib.Core.List.{List, [], _∷_, _++_, map}
 use mathlib.Core.Path.{_≡_, refl}
-use Prim.Native.Nat.{ℕ, suc, _+_, _*_, _^_, _≤_, _<_}
+use Prim.Native.Nat.{ℕ, _+_, _*_, _^_, _≤_}
 use native.Mathlib.Nat.{mul-suc}
 use native.Mathlib.Omega.{arith}
 use lib.Dec.{eqb}
@@ -12,10 +12,9 @@ use lib.ListN.{length, length-append}
 use Rattle.laws.proofs.Accepted.{Standing, clock-read, nothing-read, reached-standing, taken-exactly, valid}
 use Rattle.laws.proofs.Choices.{split}
 use Rattle.laws.proofs.Course.{plan-sound}
-use Rattle.laws.proofs.Decimal.{digitsOf-length}
 use Rattle.laws.proofs.Elements.{each-map, each-too}
 use Rattle.laws.proofs.Jobs.{each-left, listed-has}
-use Rattle.laws.proofs.LineText.{behind-all, behindLetter, length-behind-next, line-behind-letter}
+use Rattle.laws.proofs.Longest.{digits, line-length}
 use Rattle.laws.proofs.Lookups.{each-both, each-keep, found-each, length-map}
 use Rattle.laws.proofs.Planned.{each-fated}
 use Rattle.laws.proofs.Ranges.{clock-ranges, job-ranges, speed-ranges}
@@ -24,25 +23,14 @@ use Rattle.laws.proofs.Testers.{promises}
 use Rattle.laws.proofs.Trips.{valid-few-holds}
 use Rattle.rules.specs.Answers.{numberOf}
 use Rattle.rules.specs.Listing.{fateLine, finish, letterO, letterP, letterR, letterX, linesFor, listingOf, orderLine, planLine, planLines, unplanned}
-use Rattle.rules.specs.Lists.{Each, joined, keep, none-left, total, _and_}
+use Rattle.rules.specs.Lists.{Each, joined, keep, none-left, _and_}
 use Rattle.rules.specs.Plan.{Entry, Fated, Run, fatePlanned, fatesOf, jobsOf, planFrom, planOf, qualifies, runsFrom, runsOf}
 use Rattle.rules.specs.Refusals.{Before, Item, Taken, nothing, one, read, refusedAt, taken, itemsIn}
-use Rattle.rules.specs.TableText.{Record, Records, digitsOf, inRange, lineText, lined, linesOf, mostJobs}
+use Rattle.rules.specs.TableText.{Record, Records, inRange, lineText, lined, linesOf, mostJobs}
 use Rattle.rules.specs.Valid.{Valid}
 use Rattle.rules.specs.declared.Job.{Job}
 use Rattle.rules.specs.declared.Refusal.{Refusal}
 use Rattle.rules.specs.declared.Speed.{Speed}
-
--- A line: its letter and line feed, and for each number a tab and its digits.
-line-length : (letter : ℕ) (ns : List ℕ) → length (lineText letter ns) ≡ 2 + total (λ n. 1 + length (digitsOf n)) ns
-line-length letter ns = rw (line-behind-letter letter ns) (omega (arith, go ns))
-  where
-    go : (ns : List ℕ) → length (behindLetter ns) ≡ 1 + total (λ n. 1 + length (digitsOf n)) ns
-    go [] = rw (behind-all [] 0 (omega arith)) refl
-    go (n ∷ ns) = omega (arith, length-behind-next (n ∷ ns) 0 (omega arith), go ns)
-
-digits : (k n : ℕ) → k < 20 → n < 10 ^ suc k → length (digitsOf n) ≤ suc k
-digits k n a h = digitsOf-length (suc k) n (omega arith) a h
 
 lines-length : {A : Type 0} (line : A → List ℕ) (most : ℕ) {xs : List A} → Each (λ x. length (line x) ≤ most) xs
     → length (joined line xs) ≤ most * length xs

@@ -1,18 +1,28 @@
 -- The three ways of `plan_into`: a buffer too small, a text refused, a table planned. Each is the rules'. Assumes nothing.
-use mathlib.Core.Bool.{Bool, true, false, cond, _||_}
+use mathlib.Core.Bool.{Bool, true, false, _||_}
 use mathlib.Core.List.{List}
 use mathlib.Core.Path.{_≡_, refl, sym, ap, _∙_}
-use Prim.Native.Nat.{ℕ}
+use Prim.Native.Nat.{ℕ, _≤_, _<_}
+use borrow.Author.Tests.{le-ltb, lt-ltb}
+use lib.ListN.{length}
 use Rattle.plans.specs.Promises.{leaves}
-use Rattle.rules.specs.Plan.{AfterPlanning, leavesAll, leavesOf, leavesPlan, planOf, planning, tooSmall}
+use Rattle.rules.specs.Plan.{leavesAll, leavesOf, leavesPlan, planOf, planning, tooSmall}
 use Rattle.rules.specs.Refusals.{read, refusedAt, taken}
-use Rattle.rules.specs.TableText.{Records}
+use Rattle.rules.specs.TableText.{Records, mostJobs}
 use Rattle.rules.specs.declared.Decision.{Decision}
 use Rattle.rules.specs.declared.Refusal.{Refusal}
 
-either-true : (b : Bool) → b || true ≡ true
+pub either-true : (b : Bool) → b || true ≡ true
 either-true true = refl
 either-true false = refl
+
+pub too-small : (buffer : List ℕ) → length buffer < mostJobs → tooSmall buffer ≡ true
+unfolding tooSmall
+too-small buffer h = lt-ltb (length buffer) mostJobs h
+
+pub room : (buffer : List ℕ) → mostJobs ≤ length buffer → tooSmall buffer ≡ false
+unfolding tooSmall
+room buffer h = le-ltb (length buffer) mostJobs h
 
 module _ (text order fates : List ℕ) where
   pub no-order-room : tooSmall order ≡ true

@@ -1,11 +1,10 @@
 -- Where the reading begins and where it ends: before line 1 nothing is stored; a refused line, or no F at the end of the text,
 -- is the rules' refusal of the text; else the table is that of all its records. Assumes nothing.
-use mathlib.Core.Bool.{true, false}
+use mathlib.Core.Bool.{true}
 use mathlib.Core.List.{List, [], _∷_}
 use mathlib.Core.Path.{_≡_, refl, sym, ap, _∙_}
-use Prim.Native.Nat.{ℕ, _+_, _≤_, _<_}
+use Prim.Native.Nat.{ℕ, _≤_, _<_}
 use native.Mathlib.Omega.{arith}
-use borrow.Author.Tests.{eq-eqb, ne-eqb}
 use lib.ListN.{length, drop, drop-of-length-le, length-drop, replicate}
 use Rattle.columns.proofs.Stored.{nothing-filled}
 use Rattle.laws.proofs.Accepted.{nothing-read}
@@ -16,7 +15,7 @@ use Rattle.records.specs.Standing.{noneStanding}
 use Rattle.records.specs.declared.Standing.{Standing}
 use Rattle.rules.specs.Answers.{readingSays}
 use Rattle.rules.specs.Lists.{empty, no-element}
-use Rattle.rules.specs.Refusals.{Taken, accept, andThen, atEnd, itemsIn, nothing, read, reading, refusedAt, refusedFor, tableAnswer, takeFrom, taken}
+use Rattle.rules.specs.Refusals.{accept, andThen, atEnd, itemsIn, nothing, read, reading, refusedFor, tableAnswer, takeFrom}
 use Rattle.rules.specs.TableText.{linesOf, mostJobs, noRecords, partedBy, tableOf}
 use Rattle.rules.specs.declared.Refusal.{Refusal}
 use Rattle.rules.specs.declared.Speed.{Speed}
@@ -25,9 +24,9 @@ use Rattle.text.specs.Lines.{refusedLineOr}
 use Rattle.text.specs.declared.Cursor.{Cursor}
 use Rattle.text.specs.declared.Line.{Line}
 use Rattle.text.specs.declared.Parsed.{Parsed}
-use Rattle.lines.specs.Step.{LineAccepted, Noted, judgedAs}
+use Rattle.lines.specs.Step.{LineAccepted, judgedAs}
 use Rattle.reader.specs.Answer.{doneReading, refusedReading}
-use Rattle.reader.proofs.SoFar.{SoFar, begunWith, stored}
+use Rattle.reader.proofs.SoFar.{SoFar, begunWith}
 
 pub at-start : (text : List ℕ)
     → SoFar text (tableOf noRecords) (replicate mostJobs 0) (replicate mostJobs 0) noneStanding (record { at = 0; line = 1 })

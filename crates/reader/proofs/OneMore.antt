@@ -1,9 +1,9 @@
 -- One accepted line more, letter by letter: the record goes into the first free place of its letter, and what is noted is
 -- what the rules say of the records with it. Assumes nothing.
-use mathlib.Core.Bool.{true, false}
-use mathlib.Core.List.{List, [], _∷_, _++_}
+use mathlib.Core.Bool.{false}
+use mathlib.Core.List.{List}
 use mathlib.Core.Path.{_≡_, refl, sym, ap, _∙_}
-use Prim.Native.Nat.{ℕ, _+_, _≤_, _<_}
+use Prim.Native.Nat.{ℕ, _+_, _<_}
 use native.Mathlib.Omega.{arith}
 use lib.ListN.{length, set, length-set}
 use Rattle.columns.specs.Columns.{Column}
@@ -12,7 +12,7 @@ use Rattle.records.proofs.After.{clock-after, hold-after, job-after, speed-afte
 use Rattle.records.specs.Standing.{afterClock, afterHold, afterJob, afterSpeed, standingOf}
 use Rattle.records.specs.declared.Standing.{Standing}
 use Rattle.rules.specs.Refusals.{Before, accepted, added}
-use Rattle.rules.specs.TableText.{Record, Records, mostHolds, mostJobs, mostSpeeds, noHold, noJob, noSpeed, padded}
+use Rattle.rules.specs.TableText.{Record, mostHolds, mostJobs, mostSpeeds, noHold, noJob, noSpeed}
 use Rattle.rules.specs.declared.Hold.{Hold}
 use Rattle.rules.specs.declared.Job.{Job}
 use Rattle.rules.specs.declared.Speed.{Speed}
@@ -21,8 +21,8 @@ use Rattle.text.specs.Lines.{isRefused, parsedOf}
 use Rattle.text.specs.declared.Cursor.{Cursor}
 use Rattle.text.specs.declared.Line.{Line}
 use Rattle.text.specs.declared.Parsed.{Parsed}
-use Rattle.lines.specs.Step.{LineAccepted, Noted, judgedAs, withMore}
-use Rattle.reader.proofs.SoFar.{Fit, Moved, SoFar, begunWith, fits, moved, one-more-column, one-more-padded, stored}
+use Rattle.lines.specs.Step.{LineAccepted, judgedAs, withMore}
+use Rattle.reader.proofs.SoFar.{Moved, SoFar, begunWith, fits, moved, one-more-column, one-more-padded, stored}
 
 -- the table with a T, an F, a J or an H line stored
 abbrev pub clockStored : Table → ℕ → ℕ → Table

@@ -1,36 +1,30 @@
 -- What holds whenever the reader is about to look at a line: the text is what its records so far and the rest of it come
 -- to, and what it has stored and noted are those records. One line more keeps that true, whichever letter it has. Assumes
 -- nothing.
-use mathlib.Core.Bool.{Bool, true, false}
-use mathlib.Core.List.{List, [], _∷_, _++_, append-assoc}
+use mathlib.Core.Bool.{false}
+use mathlib.Core.List.{List, [], _∷_, _++_}
 use mathlib.Core.Path.{_≡_, refl, sym, ap, _∙_}
 use Prim.Native.Nat.{ℕ, zero, suc, _+_, _-_, _≤_, _<_}
-use native.Mathlib.Numerals.{add-one}
 use native.Mathlib.Omega.{arith}
-use lib.ListN.{length, drop, getD, set, replicate, length-append, length-drop, length-set}
+use lib.ListN.{length, drop, set, replicate, length-drop}
 use lib.Seq.{append-snoc, set-at}
 use Rattle.columns.specs.Columns.{Column}
 use Rattle.laws.proofs.Accepted.{Standing as Reachable, clock-read, nothing-read, reached-standing, valid}
 use Rattle.laws.proofs.Elements.{length-more}
 use Rattle.laws.proofs.Lines.{items, rest-shorter}
-use Rattle.laws.proofs.Stopped.{Reached, after, at-once}
+use Rattle.laws.proofs.Stopped.{after, at-once}
 use Rattle.laws.proofs.Trips.{valid-few-holds}
-use Rattle.laws.specs.FirstLine.{firstItem, restOf}
-use Rattle.records.proofs.After.{clock-after, hold-after, job-after, speed-after}
-use Rattle.records.specs.Standing.{afterClock, afterHold, afterJob, afterSpeed, standingOf}
+use Rattle.laws.specs.FirstLine.{firstItem}
 use Rattle.records.specs.declared.Standing.{Standing}
 use Rattle.rules.specs.Lists.{Rising, no-element}
 use Rattle.rules.specs.Refusals.{Before, accept, accepted, added, andThen, itemsIn, nothing, read, takeFrom}
 use Rattle.rules.specs.TableText.{Record, Records, linesOf, mostHolds, mostJobs, mostSpeeds, noHold, noJob, noRecords, noSpeed, padded}
-use Rattle.rules.specs.declared.Hold.{Hold}
 use Rattle.rules.specs.declared.Job.{Job}
-use Rattle.rules.specs.declared.Speed.{Speed}
 use Rattle.rules.specs.declared.Table.{Table}
 use Rattle.text.specs.Lines.{isRefused}
 use Rattle.text.specs.declared.Cursor.{Cursor}
 use Rattle.text.specs.declared.Line.{Line}
-use Rattle.text.specs.declared.Parsed.{Parsed}
-use Rattle.lines.specs.Step.{LineAccepted, Noted, judgedAs, withMore}
+use Rattle.lines.specs.Step.{LineAccepted, Noted, judgedAs}
 
 -- the records in their places; the counts come last
 abbrev pub stored : Records → Table

@@ -1,21 +1,21 @@
 -- The faults by letter, reckoned from the small state, are the rules' faults of the record after the records that the state
 -- stands for: each test of the rules reads only a count, the last first number, or the holder. Assumes nothing.
 use mathlib.Core.Bool.{Bool, true, false, cond, not, _&&_, _||_}
-use mathlib.Core.List.{List, [], _∷_, _++_}
+use mathlib.Core.List.{List, [], _∷_}
 use mathlib.Core.Option.{Option, none, some}
-use mathlib.Core.Path.{_≡_, refl, sym, ap, _∙_}
-use Prim.Native.Nat.{ℕ, _+_}
+use mathlib.Core.Path.{_≡_, refl, sym}
+use Prim.Native.Nat.{ℕ}
 use lib.Dec.{eqb, ltb, eqb·suc-zero}
-use lib.ListN.{length, length-append}
+use lib.ListN.{length}
 use Rattle.rules.specs.Lists.{any, empty, lastOr}
-use Rattle.rules.specs.Refusals.{Before, added, asksOwn, criticalAfter, faultOf, isHolder, mayStand, outOfOrder, outOfRange, ownRequest, rises, tooMany, unknownJob}
-use Rattle.rules.specs.TableText.{Record, Records, inRange, noHold, noJob, noSpeed}
+use Rattle.rules.specs.Refusals.{Before, asksOwn, criticalAfter, faultOf, isHolder, mayStand, outOfOrder, outOfRange, ownRequest, rises, tooMany, unknownJob}
+use Rattle.rules.specs.TableText.{Record, noHold, noJob, noSpeed}
 use Rattle.rules.specs.declared.Hold.{Hold}
 use Rattle.rules.specs.declared.Job.{Job}
 use Rattle.rules.specs.declared.Refusal.{Refusal}
 use Rattle.rules.specs.declared.Speed.{Speed}
 use Rattle.records.specs.Faults.{clockFault, speedFault, jobFault, holdFault, holderFault}
-use Rattle.records.specs.Standing.{standingOf, afterClock, afterSpeed, afterJob, afterHold}
+use Rattle.records.specs.Standing.{standingOf}
 use Rattle.records.specs.declared.Holder.{Holder}
 
 empty-count : {A : Type 0} (xs : List A) → empty xs ≡ eqb (length xs) 0

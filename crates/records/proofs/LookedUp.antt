@@ -1,22 +1,20 @@
 -- Refusals 6 and 7 of an H line from the one job that it names: the numbers rise, so that no other job has that number.
 -- Assumes nothing.
-use mathlib.Core.Bool.{Bool, true, false, cond, not, _&&_, _||_, or-false}
+use mathlib.Core.Bool.{Bool, true, false, or-false}
 use mathlib.Core.List.{List, [], _∷_}
-use mathlib.Core.Option.{Option, none, some}
-use mathlib.Core.Path.{_≡_, refl, sym, ap, _∙_}
+use mathlib.Core.Path.{_≡_, refl}
 use Prim.Native.Nat.{ℕ, suc, _<_, _≤_}
 use native.Mathlib.Omega.{arith}
 use borrow.Author.Tests.{eq-eqb, ne-eqb, eqb-true}
 use lib.Dec.{eqb}
 use lib.ListN.{length, drop, getD, drop-of-length-le}
 use lib.Seq.{drop-cons}
-use Rattle.rules.specs.Lists.{Rising, no-element, one-element, _below_, any, find}
+use Rattle.rules.specs.Lists.{Rising, no-element, one-element, _below_, any}
 use Rattle.rules.specs.Refusals.{asksOwn, isHolder}
 use Rattle.rules.specs.TableText.{noJob}
 use Rattle.rules.specs.declared.Hold.{Hold}
 use Rattle.rules.specs.declared.Job.{Job}
-use Rattle.rules.specs.declared.Refusal.{Refusal}
-use Rattle.records.specs.Faults.{holderFault, lookedUp, asHolder}
+use Rattle.records.specs.Faults.{holderFault, lookedUp}
 use Rattle.records.specs.declared.Holder.{Holder}
 use Rattle.records.proofs.Faults.{holder-fault}
 

@@ -5,7 +5,6 @@ use mathlib.Core.List.{List}
 use Prim.Native.Nat.{ℕ}
 use lib.Dec.{leb, ltb, eqb}
 use Rattle.rules.specs.Lists.{find}
-use Rattle.rules.specs.Refusals.{criticalAfter}
 use Rattle.rules.specs.TableText.{Record, inRange, mostJobs, mostSpeeds}
 use Rattle.rules.specs.declared.Hold.{Hold}
 use Rattle.rules.specs.declared.Job.{Job}

@@ -1,6 +1,6 @@
 -- The small state that the judgement of a record needs, and the records that it stands for.
 use mathlib.Core.Bool.{true, false}
-use Prim.Native.Nat.{ℕ, _+_}
+use Prim.Native.Nat.{_+_}
 use lib.ListN.{length}
 use Rattle.rules.specs.Lists.{lastOr}
 use Rattle.rules.specs.Refusals.{Before}

@@ -1,7 +1,7 @@
 -- `boundary::cuddlelamb_allocate` meets its contract: each case of the answer has its numbers. Assumes nothing.
 use mathlib.Core.List.{[], _∷_}
 use mathlib.Core.Path.{sym, ap, _∙_}
-use Rattle.rules.specs.Answers.{Answer, allocatedSays}
+use Rattle.rules.specs.Answers.{allocatedSays}
 use borrow.Author.Needs.{needs}
 use Rattle.boundary.proofs.cuddlelamb_allocate.Statement.{statement}
 use Rattle.boundary.proofs.cuddlelamb_allocate.Tie as tie

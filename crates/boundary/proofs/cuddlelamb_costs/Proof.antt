@@ -2,7 +2,6 @@
 use mathlib.Core.Path.{ap, _∙_}
 use Rattle.boundary.proofs.Says.{told-says}
 use Rattle.boundary.specs.declared.Told.{Told}
-use Rattle.rules.specs.Answers.{Answer}
 use borrow.Author.Needs.{needs}
 use Rattle.boundary.proofs.cuddlelamb_costs.Statement.{statement}
 use Rattle.boundary.proofs.cuddlelamb_costs.Tie as tie

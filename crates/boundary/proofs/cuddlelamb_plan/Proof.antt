@@ -1,7 +1,7 @@
 -- `boundary::cuddlelamb_plan` meets its contract: it is `plan_into`, its decision told in numbers. Assumes nothing.
 use mathlib.Core.List.{[], _∷_}
 use mathlib.Core.Path.{sym, ap, _∙_}
-use Rattle.rules.specs.Answers.{Answer, decisionSays}
+use Rattle.rules.specs.Answers.{decisionSays}
 use Rattle.rules.specs.Plan.{AfterPlanning}
 use borrow.Author.Needs.{needs}
 use Rattle.boundary.proofs.cuddlelamb_plan.Statement.{statement}

@@ -3,7 +3,7 @@ use mathlib.Core.List.{[]}
 use mathlib.Core.Path.{ap, _∙_}
 use Rattle.boundary.proofs.Says.{told-says}
 use Rattle.boundary.specs.declared.Told.{Told}
-use Rattle.rules.specs.Answers.{Answer, TableAnswer}
+use Rattle.rules.specs.Answers.{TableAnswer}
 use borrow.Author.Needs.{needs}
 use Rattle.boundary.proofs.cuddlelamb_read.Statement.{statement}
 use Rattle.boundary.proofs.cuddlelamb_read.Tie as tie

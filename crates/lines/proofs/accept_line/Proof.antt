@@ -1,6 +1,6 @@
 -- `lines::accept_line` meets its contract: the line is read to its item, and the item's judgement is the rules'. Assumes
 -- nothing.
-use mathlib.Core.Path.{_≡_, sym, _∙_}
+use mathlib.Core.Path.{sym, _∙_}
 use Rattle.lines.proofs.OneLine.{good-line, bad-line}
 use borrow.Author.Needs.{needs}
 use Rattle.lines.proofs.accept_line.Statement.{statement}

@@ -1,28 +1,14 @@
 -- `planner::plan_into` meets its contract: the buffers' room first, then the text, then its plan. A table that was read is
 -- valid, so that it can be planned. Assumes nothing.
-use mathlib.Core.Bool.{true, false}
-use mathlib.Core.List.{List}
 use mathlib.Core.Path.{_≡_}
-use Prim.Native.Nat.{ℕ, _≤_, _<_}
-use borrow.Author.Tests.{le-ltb, lt-ltb}
-use lib.ListN.{length}
-use Rattle.planner.proofs.Decisions.{no-fate-room, no-order-room, text-planned, text-refused}
+use Rattle.planner.proofs.Decisions.{no-fate-room, no-order-room, room, text-planned, text-refused, too-small}
 use Rattle.plans.proofs.Readings.{reading-done, reading-refused}
 use Rattle.plans.specs.Promises.{Plannable}
-use Rattle.rules.specs.Plan.{tooSmall}
 use Rattle.rules.specs.Refusals.{read, taken}
-use Rattle.rules.specs.TableText.{mostJobs, recordsOf}
+use Rattle.rules.specs.TableText.{recordsOf}
 use borrow.Author.Needs.{needs}
 use Rattle.planner.proofs.plan_into.Statement.{statement}
 use Rattle.planner.proofs.plan_into.Tie as tie
-
-too-small : (buffer : List ℕ) → length buffer < mostJobs → tooSmall buffer ≡ true
-unfolding tooSmall
-too-small buffer h = lt-ltb (length buffer) mostJobs h
-
-room : (buffer : List ℕ) → mostJobs ≤ length buffer → tooSmall buffer ≡ false
-unfolding tooSmall
-room buffer h = le-ltb (length buffer) mostJobs h
 
 -- what was read, where it is not refused
 read-it : (c : tie.After-enum-told)

@@ -1,12 +1,11 @@
 -- `reader::read` meets its contract. The invariant: what has been stored and noted are the records of the lines so far, and
 -- reading all of the text comes to the same as going on from them with the rest of it. Each turn takes one line. Assumes
 -- nothing.
-use mathlib.Core.Bool.{Bool, false}
 use mathlib.Core.List.{List}
-use mathlib.Core.Path.{_≡_, refl, sym, ap, _∙_}
-use Prim.Native.Nat.{ℕ, _+_, _-_, _≤_, _<_}
+use mathlib.Core.Path.{ap, _∙_}
+use Prim.Native.Nat.{ℕ, _-_, _<_}
 use native.Mathlib.Omega.{arith}
-use lib.ListN.{length, drop}
+use lib.ListN.{length}
 use Rattle.records.specs.declared.Standing.{Standing}
 use Rattle.text.specs.Lines.{isRefused}
 use Rattle.lines.specs.Step.{LineAccepted, afterParsed, countOf}
