@@ -41,7 +41,7 @@ module _ (holds : List Hold) (hold-count : ℕ) (number cycles worth critical te
         let stage = staged .stage t valid of holds-of (columns .number) (columns .cycles) (columns .worth)
         (columns .termination) (columns .request) in
         let told = ratios-of .ratios t of (stage .waits-left) (columns .cycles) (columns .worth) (columns .termination) in
-        let in-order = ordered .in-order t (sym (of .job-count)) (columns .number) (stage .fates-so-far) told in
+        let in-order = ordered .in-order t valid (sym (of .job-count)) (columns .number) (stage .fates-so-far) told in
         rw (sym (course-in-order t (order .order) (order .count) in-order))
         (taken .course t (record {
           valid = valid;
