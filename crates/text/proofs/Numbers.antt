@@ -1,20 +1,21 @@
 -- The digits at the front of a text and the number that they stand for, byte by byte from a place on: each law says what
 -- one byte more does, by the definition. Assumes nothing.
-use mathlib.Core.Path.{_≡_, refl}
-use mathlib.Core.Bool.{Bool, true, false, cond, not, _&&_, _||_}
+use mathlib.Core.Path.{_≡_, refl, sym, ap, _∙_}
+use mathlib.Core.Bool.{Bool, true, false, cond, not, _&&_, _||_, and-false}
 use mathlib.Core.List.{List, [], _∷_}
-use Prim.Native.Nat.{ℕ, zero, suc, _+_, _-_, _*_, _≤_, _<_, _^_}
-use native.Mathlib.Nat.{add-sub-cancel-left, add-zero, le-of-suc-le-suc, not-suc-le-zero, pow-suc, pow-le-pow-right}
+use Prim.Native.Nat.{ℕ, _+_, _-_, _*_, _≤_, _<_, _^_}
+use native.Mathlib.Nat.{add-zero, pow-suc, pow-le-pow-right}
 use native.Mathlib.Numerals.{add-one}
 use native.Mathlib.Omega.{arith}
-use borrow.Author.Tests.{le-leb, lt-leb, leb-true}
+use borrow.Author.Tests.{le-leb, lt-leb, leb-true, leb-false, ne-eqb}
 use lib.Dec.{leb, eqb}
-use lib.ListN.{length, take, drop, getD, drop-of-length-le, length-drop}
+use lib.ListN.{length, take, drop, getD, drop-of-length-le, length-drop, length-take}
 use lib.Seq.{drop-cons, getD-drop}
 use Rattle.rules.specs.Lists.{all}
 use Rattle.rules.specs.TableText.{digitZero, isDigit, isNumber, leadingZero, mostDigits, valueFrom}
 use Rattle.laws.proofs.Tests.{both-true}
-use Rattle.text.specs.Fields.{front, shaped}
+use Rattle.text.specs.declared.Run.{Run}
+use Rattle.text.specs.Fields.{DigitsRead, front, shaped}
 
 pub front-none : (s : List ℕ) (i : ℕ) → length s ≤ i → front (drop i s) ≡ []
 unfolding front
@@ -28,34 +29,46 @@ pub front-high : (s : List ℕ) (i : ℕ) → i < length s → 57 < getD s i 0 �
 unfolding front isDigit
 front-high s i h l = rw (drop-cons s i 0 h, le-leb 48 (getD s i 0) (omega arith), lt-leb (getD s i 0) 57 l)
 
-pub front-more : (s : List ℕ) (i : ℕ) → i < length s → 48 ≤ getD s i 0 → getD s i 0 ≤ 57
+front-more : (s : List ℕ) (i : ℕ) → i < length s → 48 ≤ getD s i 0 → getD s i 0 ≤ 57
     → front (drop i s) ≡ getD s i 0 ∷ front (drop (i + 1) s)
 unfolding front isDigit
 front-more s i h l k = rw (drop-cons s i 0 h, le-leb 48 (getD s i 0) l, le-leb (getD s i 0) 57 k, add-one)
 
--- where each byte is a digit, the byte at a place is one
-pub digit-bounds : (s : List ℕ) (i : ℕ) → all isDigit s ≡ true → i < length s → (48 ≤ getD s i 0) × (getD s i 0 ≤ 57)
-unfolding isDigit
-digit-bounds [] i e h = absurd (not-suc-le-zero h)
-digit-bounds (b ∷ bs) zero e h =
-    let g = both-true (leb 48 b) (leb b 57) (both-true (isDigit b) (all isDigit bs) e .0) in
-    (leb-true 48 b (g .0), leb-true b 57 (g .1))
-digit-bounds (b ∷ bs) (suc i) e h = digit-bounds bs i (both-true (isDigit b) (all isDigit bs) e .1) (le-of-suc-le-suc h)
+-- So much of the digits at the front of a text is read: `count` of them, with their value, and going on from there
+-- gives the whole.
+pub record Begun (s : List ℕ) (count value : ℕ) : Type 0 where
+  pub counted : length (front s) ≡ count + length (front (drop count s))
+  pub valued : valueFrom 0 (front s) ≡ valueFrom value (front (drop count s))
+  pub small : value < 10 ^ count
 
-pub pow-more : (i : ℕ) → 10 ^ (i + 1) ≡ 10 ^ i * 10
-pow-more i = rw (add-one, pow-suc)
+pub begun-none : (s : List ℕ) → Begun s 0 0
+begun-none s = record { counted = omega arith; valued = refl; small = omega arith }
 
-pub pow-within : (i : ℕ) → i ≤ 16 → 10 ^ i ≤ 10 ^ 16
-pow-within i h = pow-le-pow-right (omega arith) h
-
-pub value-none : (s : List ℕ) (v i : ℕ) → length s ≤ i → valueFrom v (drop i s) ≡ v
+pub begun-more : (s : List ℕ) (i v : ℕ) → Begun s i v → i < length s → 48 ≤ getD s i 0 → getD s i 0 ≤ 57
+    → Begun s (i + 1) (v * 10 + (getD s i 0 - 48))
 unfolding valueFrom
-value-none s v i h = rw (drop-of-length-le s h)
+begun-more s i v b h l k =
+    let more = front-more s i h l k in
+    record {
+      counted = omega (arith, ap length more);
+      valued = b .valued ∙ ap (valueFrom v) more;
+      small = rw (add-one, pow-suc) (omega arith);
+    }
 
-pub value-more : (s : List ℕ) (v i : ℕ) → i < length s
-    → valueFrom v (drop i s) ≡ valueFrom (v * 10 + (getD s i 0 - 48)) (drop (i + 1) s)
+-- up to the last digit that a number has, one more fits 64 bits
+pub begun-small : (s : List ℕ) (i v : ℕ) → Begun s i v → i ≤ mostDigits → v < 10 ^ mostDigits
+begun-small s i v b h =
+    let more : 10 ^ i ≤ 10 ^ mostDigits = pow-le-pow-right (omega arith) h in
+    omega arith
+
+-- where no digit is left, or more are read than a number has, reading is done
+pub begun-done : (s : List ℕ) (i v : ℕ) → Begun s i v → (i ≤ mostDigits → front (drop i s) ≡ [])
+    → DigitsRead (front s) (record { count = i; value = v })
 unfolding valueFrom
-value-more s v i h = rw (add-one, drop-cons s i 0 h)
+begun-done s i v b none = record {
+  within = omega arith;
+  all = λ h. (omega (arith, ap length (none h)), sym (b .valued ∙ ap (valueFrom v) (none h)));
+}
 
 -- the front of a text is digits, and the text begins with it
 module _ (b : ℕ) (bs ds : List ℕ) where
@@ -67,14 +80,6 @@ module _ (b : ℕ) (bs ds : List ℕ) where
   take-by-test true h = rw h
   take-by-test false h = refl
 
-  length-by-test : (t : Bool) → length ds ≤ length bs → length (cond t (b ∷ ds) []) ≤ length (b ∷ bs)
-  length-by-test true h = omega arith
-  length-by-test false h = omega arith
-
-  first-by-test : (t : Bool) → 0 < length (cond t (b ∷ ds) []) → getD (cond t (b ∷ ds) []) 0 0 ≡ b
-  first-by-test true h = refl
-  first-by-test false h = absurd (omega arith)
-
 pub front-digits : (s : List ℕ) → all isDigit (front s) ≡ true
 unfolding front
 front-digits [] = refl
@@ -85,30 +90,13 @@ unfolding front
 front-take [] = refl
 front-take (b ∷ bs) = take-by-test b bs (front bs) (isDigit b) (front-take bs)
 
-front-length : (s : List ℕ) → length (front s) ≤ length s
-unfolding front
-front-length [] = omega arith
-front-length (b ∷ bs) = length-by-test b bs (front bs) (isDigit b) (front-length bs)
-
-front-first : (s : List ℕ) → 0 < length (front s) → getD (front s) 0 0 ≡ getD s 0 0
-unfolding front
-front-first [] h = refl
-front-first (b ∷ bs) h = first-by-test b bs (front bs) (isDigit b) h
-
 -- digits from a place on stay within the text
-pub front-within : (s : List ℕ) (i : ℕ) → 0 < length (front (drop i s)) → i + length (front (drop i s)) ≤ length s
-front-within s i h = omega (arith, front-length (drop i s), length-drop i s)
+pub front-within : (s : List ℕ) (i : ℕ) → i ≤ length s → i + length (front (drop i s)) ≤ length s
+front-within s i h =
+    let digits = front (drop i s) in
+    omega (arith, ap length (front-take (drop i s)), length-take (length digits) (drop i s), length-drop i s)
 
--- and are the part of it that is as long
-pub part-front : (s : List ℕ) (at count : ℕ) → count ≡ length (front (drop at s)) → take (at + count - at) (drop at s) ≡ front (drop at s)
-part-front s at count e = rw (add-sub-cancel-left, e, front-take)
-
--- Digits are a number if there is one or more, at most 16, and the first is no zero or alone.
-pub no-digit : (ds : List ℕ) → length ds ≡ 0 → isNumber ds ≡ false
-unfolding isNumber
-no-digit [] e = refl
-no-digit (d ∷ ds) e = absurd (omega arith)
-
+-- Digits are a number by their count and the first.
 alone-by-test : (t : Bool) → (not (t && false) && true) ≡ (true && (not t || true))
 alone-by-test true = refl
 alone-by-test false = refl
@@ -119,21 +107,37 @@ more-by-test true false = refl
 more-by-test false true = refl
 more-by-test false false = refl
 
-shaped-number : (ds : List ℕ) → 0 < length ds → all isDigit ds ≡ true → isNumber ds ≡ shaped (length ds) (getD ds 0 0)
+shaped-by-test : (t : Bool) (b : ℕ) (ds : List ℕ) → isDigit b ≡ t → all isDigit ds ≡ true
+    → isNumber (cond t (b ∷ ds) []) ≡ shaped (length (cond t (b ∷ ds) [])) b
 unfolding isNumber shaped leadingZero
-shaped-number [] h e = absurd (omega arith)
-shaped-number (d ∷ []) h e = rw e (alone-by-test (eqb d digitZero))
-shaped-number (d ∷ (f ∷ ds)) h e =
-    rw (e, lt-leb (length (d ∷ (f ∷ ds))) 1 (omega arith)) (more-by-test (eqb d digitZero) (leb (length (d ∷ (f ∷ ds))) mostDigits))
+shaped-by-test false b ds d e = refl
+shaped-by-test true b [] d e = rw d (alone-by-test (eqb b digitZero))
+shaped-by-test true b (f ∷ ds) d e =
+    let count = length (b ∷ (f ∷ ds)) in
+    rw (d, e, ne-eqb count 0 (λ h. omega arith), lt-leb count 1 (omega arith)) (more-by-test (eqb b digitZero) (leb count mostDigits))
 
-first-at : (s : List ℕ) (at : ℕ) → getD (drop at s) 0 0 ≡ getD s at 0
-first-at s at = rw (getD-drop at s 0 0, add-zero)
+front-shaped : (s : List ℕ) → isNumber (front s) ≡ shaped (length (front s)) (getD s 0 0)
+unfolding front isNumber shaped
+front-shaped [] = refl
+front-shaped (b ∷ bs) = shaped-by-test (isDigit b) b (front bs) refl (front-digits bs)
 
-pub front-shaped : (s : List ℕ) (at : ℕ) → 0 < length (front (drop at s))
-    → isNumber (front (drop at s)) ≡ shaped (length (front (drop at s))) (getD s at 0)
-front-shaped s at h =
-    rw (← first-at s at, ← front-first (drop at s) h) (shaped-number (front (drop at s)) h (front-digits (drop at s)))
+-- and so they are by as many of them as are read
+read-by-test : (t : Bool) (ds : List ℕ) (first : ℕ) (r : Run) → DigitsRead ds r → leb (r .count) mostDigits ≡ t
+    → shaped (length ds) first ≡ shaped (r .count) first
+unfolding shaped
+read-by-test true ds first r read e = rw (read .all (leb-true (r .count) mostDigits e) .0)
+read-by-test false ds first r read e =
+    simp (e, lt-leb (length ds) mostDigits (omega (arith, read .within, leb-false (r .count) mostDigits e)), and-false)
+
+pub read-shaped : (s : List ℕ) (at : ℕ) (r : Run) → DigitsRead (front (drop at s)) r
+    → isNumber (front (drop at s)) ≡ shaped (r .count) (getD s at 0)
+read-shaped s at r read =
+    let first : getD (drop at s) 0 0 ≡ getD s at 0 = rw (getD-drop at s 0 0, add-zero) in
+    rw (← first)
+    (front-shaped (drop at s) ∙ read-by-test (leb (r .count) mostDigits) (front (drop at s)) (getD (drop at s) 0 0) r read refl)
 
 pub shaped-within : (count first : ℕ) → shaped count first ≡ true → count ≤ mostDigits
 unfolding shaped
-shaped-within count first h = leb-true count mostDigits (both-true (leb count mostDigits) (not (eqb first digitZero) || leb count 1) h .0)
+shaped-within count first h =
+    let counts = both-true (not (eqb count 0) && leb count mostDigits) (not (eqb first digitZero) || leb count 1) h .0 in
+    leb-true count mostDigits (both-true (not (eqb count 0)) (leb count mostDigits) counts .1)

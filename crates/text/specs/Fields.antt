@@ -1,8 +1,9 @@
 -- Document 01, "The table text": "While the text is read, a field is either a number or the refusal of its line, and the
 -- reading place moves on with each field taken."
+use mathlib.Core.Path.{_≡_}
 use mathlib.Core.Bool.{Bool, cond, not, _&&_, _||_}
 use mathlib.Core.List.{List, [], _∷_}
-use Prim.Native.Nat.{ℕ, _+_}
+use Prim.Native.Nat.{ℕ, _+_, _≤_}
 use lib.Dec.{leb, ltb, eqb}
 use lib.ListN.{length, getD, drop}
 use Rattle.rules.specs.TableText.{digitZero, isDigit, isNumber, mostDigits, tab, valueFrom}
@@ -10,6 +11,7 @@ use Rattle.rules.specs.declared.Field.{Field}
 use Rattle.rules.specs.declared.Refusal.{Refusal}
 use Rattle.text.specs.declared.Cursor.{Cursor}
 use Rattle.text.specs.declared.Pair.{Pair}
+use Rattle.text.specs.declared.Run.{Run}
 use Rattle.text.specs.declared.Taken.{Taken}
 
 -- the digits that stand at the front of a text
@@ -17,13 +19,19 @@ unfoldable pub front : List ℕ → List ℕ
 front [] = []
 front (b ∷ bs) = cond (isDigit b) (b ∷ front bs) []
 
+-- What reading digits promises: no more are counted than stand there; and where no more are counted than a number has,
+-- they are all, with the number that they stand for.
+pub record DigitsRead (digits : List ℕ) (r : Run) : Type 0 where
+  pub within : r .count ≤ length digits
+  pub all : r .count ≤ mostDigits → (r .count ≡ length digits) × (r .value ≡ valueFrom 0 digits)
+
 -- the byte b stands at a place of the text
 abbrev pub standsAt : List ℕ → ℕ → ℕ → Bool
 standsAt text at b = ltb at (length text) && eqb (getD text at 0) b
 
--- "no leading zero (0 is "0"), at most 16 digits": of one digit or more, by their count and the first
+-- "decimal digits with no leading zero (0 is "0"), at most 16 digits", by their count and the first
 unfoldable pub shaped : ℕ → ℕ → Bool
-shaped count first = leb count mostDigits && (not (eqb first digitZero) || leb count 1)
+shaped count first = not (eqb count 0) && leb count mostDigits && (not (eqb first digitZero) || leb count 1)
 
 -- the reading place behind the byte at `at`
 abbrev pub behindByte : ℕ → Cursor → Cursor

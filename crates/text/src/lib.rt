@@ -1,12 +1,9 @@
 // Reads a table text by a cursor: a field, and one line with its record. Nothing is split or copied: the text is lent to
 // each call, and the reading place goes by value.
 ghost use mathlib.Core.Path.{_≡_};
-ghost use mathlib.Core.Bool.{true};
-ghost use Prim.Native.Nat.{_≤_};
-ghost use lib.ListN.{length, drop};
-ghost use Rattle.rules.specs.Lists.{all};
-ghost use Rattle.rules.specs.TableText.{isDigit, letterJ, mostDigits, valueFrom};
-ghost use Rattle.text.specs.Fields.{front, letterAt, numberAt, refusedField, shaped, twoNumbersAt};
+ghost use Prim.Native.Nat.{_+_, _≤_};
+ghost use Rattle.rules.specs.TableText.{letterJ, mostDigits};
+ghost use Rattle.text.specs.Fields.{DigitsRead, front, letterAt, numberAt, refusedField, shaped, twoNumbersAt};
 ghost use Rattle.text.specs.Lines.{LineRead, lineWith, pairsAt, refusedLine};
 use rules::Field;
 use rules::Hold;
@@ -23,6 +20,9 @@ const LETTER_J: u64 = 74;
 
 const LETTER_H: u64 = 72;
 
+// "at most 16 digits"
+const MOST_DIGITS: usize = 16;
+
 // The reading place, and the number of the line that it stands in.
 pub struct Cursor {
     pub at: usize,
@@ -33,6 +33,12 @@ pub struct Cursor {
 pub struct Taken {
     pub field: Field,
     pub next: Cursor,
+}
+
+// Digits in a row: how many, and the number that they stand for.
+struct Run {
+    count: usize,
+    value: u64,
 }
 
 // Two numbers and the reading place behind them, or the refusal of their line.
@@ -57,45 +63,45 @@ pub struct Line {
     pub next: Cursor,
 }
 
-// How many digits stand from a place on.
-fn digits(text: &[u8], at: usize) -> usize
-    ensures { λ r. ⌜ r ≡ length (front (drop at (now (text .entry)))) ⌝ }
+// How far into so many bytes digits are read: with one more than a number has they are no number.
+fn reach(bytes: usize) -> usize
+    ensures { λ r. ⌜ (r ≤ bytes) × (r ≤ mostDigits + 1) × (r ≤ mostDigits → r ≡ bytes) ⌝ }
 {
-    let mut i = at;
-    while i < text.len() {
-        let byte = text[i];
+    if bytes <= MOST_DIGITS {
+        return bytes;
+    }
+    MOST_DIGITS + 1
+}
+
+// The digits at the front of a text, each read once: how many, and the number that they stand for.
+fn digits(text: &[u8]) -> Run
+    ensures { λ r. ⌜ DigitsRead (front (now (text .entry))) r ⌝ }
+{
+    let end = reach(text.len());
+    let mut value: u64 = 0;
+    let mut count = 0;
+    while count < end {
+        let byte = text[count];
         if byte < b'0' {
-            return i - at;
+            return Run { count, value };
         }
         if b'9' < byte {
-            return i - at;
+            return Run { count, value };
         }
-        i += 1;
+        value = value * 10 + ((byte - b'0') as u64);
+        count += 1;
     }
-    i - at
+    Run { count, value }
 }
 
-// The number that at most 16 digits stand for.
-fn value(part: &[u8]) -> u64
-    requires { ⌜ all isDigit (now part) ≡ true ⌝ }
-    requires { ⌜ length (now part) ≤ mostDigits ⌝ }
-    ensures { λ r. ⌜ r ≡ valueFrom 0 (now (part .entry)) ⌝ }
-{
-    let mut sum: u64 = 0;
-    let mut i = 0;
-    while i < part.len() {
-        let digit = part[i] - b'0';
-        sum = sum * 10 + (digit as u64);
-        i += 1;
-    }
-    sum
-}
-
-// Digits, one or more, are a number: at most 16, and no leading zero.
+// Digits are a number, by their count and the first: one or more, at most 16, and no leading zero.
 fn number_shaped(count: usize, first: u8) -> bool
     ensures { λ r. ⌜ r ≡ shaped count first ⌝ }
 {
-    if 16 < count {
+    if count == 0 {
+        return false;
+    }
+    if MOST_DIGITS < count {
         return false;
     }
     if first == b'0' {
@@ -120,10 +126,11 @@ impl Cursor {
         ensures { λ r. ⌜ r ≡ numberAt (now (text .entry)) self end ⌝ }
     {
         let at = self.at;
-        let count = digits(text, at);
-        if count == 0 {
+        if text.len() <= at {
             return self.refused_field();
         }
+        let run = digits(&text[at..]);
+        let count = run.count;
         if !number_shaped(count, text[at]) {
             return self.refused_field();
         }
@@ -134,9 +141,8 @@ impl Cursor {
         if text[behind] != end {
             return self.refused_field();
         }
-        let sum = value(&text[at..behind]);
         Taken {
-            field: Field::Number(sum),
+            field: Field::Number(run.value),
             next: Cursor {
                 at: behind + 1,
                 line: self.line,
