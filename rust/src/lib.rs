@@ -14,7 +14,7 @@ pub mod compare;
 pub mod generate;
 pub mod library;
 #[cfg(linked)]
-mod linked;
+pub mod linked;
 pub mod naive;
 pub mod reference;
 mod served;

@@ -6,12 +6,15 @@
 //!        bench WHO CALL TIMES FAMILY JOBS   so many calls, to be counted or watched from outside: WHO is library or
 //!                                           reference, CALL is read or plan, FAMILY is 0 to 3
 
+#![cfg_attr(not(linked), allow(dead_code, unused_imports))]
+
 use std::hint::black_box;
 use std::process::Command;
 use std::time::{Duration, Instant};
 
 use cuddlelamb::generate;
-use cuddlelamb::library::Library;
+#[cfg(linked)]
+use cuddlelamb::linked;
 use cuddlelamb::reference::{self, Hold, Job, Speed, Table, HOLDS, JOBS, LAST_TIME, MOST_BUDGET, SUPPLIED_SPEEDS};
 
 const SIZES: [usize; 4] = [8, 16, 32, 64];
@@ -19,10 +22,13 @@ const CALLS: [&str; 2] = ["read", "plan"];
 const FAMILIES: [&str; 4] =
     ["nothing waits", "ten times overloaded", "long chains, all accepted", "long chains, ten times overloaded"];
 
+#[cfg(not(linked))]
 fn main() {
-    if !cfg!(linked) {
-        panic!("nothing is linked: run tools/native, then bench with --features native");
-    }
+    panic!("nothing is linked: run tools/native, then bench with --features native");
+}
+
+#[cfg(linked)]
+fn main() {
     let arguments: Vec<String> = std::env::args().skip(1).collect();
     match arguments.iter().map(String::as_str).collect::<Vec<_>>()[..] {
         [] => {
@@ -38,7 +44,7 @@ fn main() {
         [who, call, times, family, jobs] => {
             let family = FAMILIES[family.parse::<usize>().expect("a family's number")];
             let (text, _) = text_of(family, jobs.parse().expect("how many jobs"));
-            let mut one = call_of(who, call);
+            let one = call_of(who, call);
             (0..times.parse().expect("how many times")).for_each(|_| one(&text));
         }
         _ => panic!("usage: bench | bench instructions | bench WHO CALL TIMES FAMILY JOBS"),
@@ -46,25 +52,28 @@ fn main() {
 }
 
 /// A call to be measured.
-type Call = Box<dyn FnMut(&[u8])>;
+type Call = fn(&[u8]);
 
 fn call_of(who: &str, call: &str) -> Call {
-    let mut library = Library::open();
     match (who, call) {
-        ("library", "read") => Box::new(move |text| _ = black_box(library.read(black_box(text)))),
-        ("library", "plan") => Box::new(move |text| {
-            let (mut order, mut fates) = ([0; JOBS], [0; JOBS]);
-            _ = black_box(library.plan(black_box(text), &mut order, &mut fates));
-            black_box((&order, &fates));
-        }),
-        ("reference", "read") => Box::new(|text| _ = black_box(reference::read(black_box(text)))),
-        ("reference", "plan") => Box::new(|text| {
-            let (mut order, mut fates) = ([0; JOBS], [0; JOBS]);
-            _ = black_box(reference::plan(black_box(text), &mut order, &mut fates));
-            black_box((&order, &fates));
-        }),
+        #[cfg(linked)]
+        ("library", "read") => |text| _ = black_box(linked::read(black_box(text))),
+        #[cfg(linked)]
+        ("library", "plan") => {
+            |text| with_buffers(|order, fates| _ = black_box(linked::plan(black_box(text), order, fates)))
+        }
+        ("reference", "read") => |text| _ = black_box(reference::read(black_box(text))),
+        ("reference", "plan") => {
+            |text| with_buffers(|order, fates| _ = black_box(reference::plan(black_box(text), order, fates)))
+        }
         _ => panic!("who calls, and what"),
     }
+}
+
+fn with_buffers(call: impl FnOnce(&mut [u64], &mut [u64])) {
+    let (mut order, mut fates) = ([0; JOBS], [0; JOBS]);
+    call(&mut order, &mut fates);
+    black_box((&order, &fates));
 }
 
 // ---- The families ----------------------------------------------------------------------------------------------------
@@ -152,20 +161,20 @@ fn print_rows(unit: &str, measure: impl Fn(usize, &str, usize) -> Costs) {
 /// Library and reference in turns, each the least of seven measures of as many calls as take some milliseconds.
 fn nanoseconds(family: usize, call: &str, jobs: usize) -> Costs {
     let (text, _) = text_of(FAMILIES[family], jobs);
-    let (mut library, mut reference) = (call_of("library", call), call_of("reference", call));
-    let timed = |one: &mut Call, times: u32| {
+    let (library, reference) = (call_of("library", call), call_of("reference", call));
+    let timed = |one: Call, times: u32| {
         let start = Instant::now();
         (0..times).for_each(|_| one(&text));
         start.elapsed()
     };
     let mut times = 1;
-    while timed(&mut library, times) < Duration::from_millis(20) {
+    while timed(library, times) < Duration::from_millis(20) {
         times *= 2;
     }
     let (mut least, mut other_least) = (Duration::MAX, Duration::MAX);
     for _ in 0..7 {
-        least = least.min(timed(&mut library, times));
-        other_least = other_least.min(timed(&mut reference, times));
+        least = least.min(timed(library, times));
+        other_least = other_least.min(timed(reference, times));
     }
     (least.as_nanos() as f64 / f64::from(times), other_least.as_nanos() as f64 / f64::from(times))
 }
