@@ -3,6 +3,7 @@
 use rules::Hold;
 use rules::MOST_HOLDS;
 use rules::MOST_JOBS;
+use rules::NO_FATE;
 ghost use mathlib.Core.Bool.{cond, not, _||_};
 ghost use mathlib.Core.Path.{_≡_};
 ghost use Prim.Native.Nat.{_≤_, _<_};
@@ -81,7 +82,7 @@ pub fn waits_for<'a>(
         return NOBODY;
     }
     let fate = fates[holder as usize];
-    if fate != 0 {
+    if fate != NO_FATE {
         return NOBODY;
     }
     holder

@@ -1,6 +1,6 @@
 -- How the code's columns, places and keys stand for the rules' lists: a job is known by its place in the table, and
 -- each of its fields stands at that place of the field's column.
-use mathlib.Core.List.{List, [], _∷_, map}
+use mathlib.Core.List.{List, map}
 use mathlib.Core.Path.{_≡_}
 use Prim.Native.Nat.{ℕ, _≤_, _<_}
 use lib.ListN.{getD, length}
@@ -35,15 +35,13 @@ pub record TermsOf (t : Records) (terms : Terms) : Type 0 where
 abbrev pub jobsAt : List Job → List ℕ → List Job
 jobsAt js ps = map (λ p. getD js p noJob) ps
 
--- the job at a place, with a key
-abbrev pub entryAt : List Job → ℕ → ℕ → Entry
-entryAt js p k = record { job = getD js p noJob; key = k }
+-- the job at a place, with the key that stands at that place
+abbrev pub entryAt : List Job → List ℕ → ℕ → Entry
+entryAt js keys p = record { job = getD js p noJob; key = getD keys p 0 }
 
--- the entries that places and keys side by side stand for
+-- the entries that places stand for, each job with its own key
 abbrev pub entriesIn : List Job → List ℕ → List ℕ → List Entry
-entriesIn js [] ks = []
-entriesIn js (p ∷ ps) [] = []
-entriesIn js (p ∷ ps) (k ∷ ks) = entryAt js p k ∷ entriesIn js ps ks
+entriesIn js keys ps = map (entryAt js keys) ps
 
 -- each element is below n
 abbrev pub AllBelow : ℕ → List ℕ → Type 0

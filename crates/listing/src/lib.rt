@@ -2,6 +2,7 @@
 use columns::columns_of;
 use plans::decide;
 use reader::read;
+use rules::FATE_PLANNED;
 use rules::MOST_JOBS;
 use rules::Refusal;
 use rules::Table;
@@ -84,7 +85,7 @@ fn fate_pairs<'a>(
     while i < job_count {
         let place = i;
         i += 1;
-        if fates[place] != 1 {
+        if fates[place] != FATE_PLANNED {
             first[count] = number[place];
             second[count] = fates[place];
             count += 1;

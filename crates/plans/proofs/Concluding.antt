@@ -11,12 +11,11 @@ use Rattle.columns.specs.declared.Terms.{Terms}
 use Rattle.entries.specs.Promises.{Summed}
 use Rattle.plans.proofs.Courses.{fates-at-end}
 use Rattle.plans.specs.Courses.{jobAt}
-use Rattle.plans.specs.Promises.{ChosenSpeed, Concluded, CourseBy, DecidedAs, Marked, Placed, Totalled}
+use Rattle.plans.specs.Promises.{ChosenSpeed, Concluded, Marked, Placed}
 use Rattle.plans.specs.declared.Course.{Course as Ran}
 use Rattle.plans.specs.declared.Decided.{Decided}
 use Rattle.rules.specs.Plan.{courseOf, cyclesOf, energyAt, fatePlanned, inPlan, jobsOf, planFrom, planOf, speedFor}
 use Rattle.rules.specs.TableText.{Records}
-use Rattle.rules.specs.Valid.{Valid}
 use Rattle.rules.specs.declared.Job.{Job}
 use Rattle.rules.specs.declared.Speed.{Speed}
 

@@ -18,7 +18,7 @@ use Rattle.laws.proofs.Numbered.{same-place}
 use Rattle.laws.proofs.Planned.{planned-left}
 use Rattle.plans.specs.Courses.{FatesByTurn, courseBy, fateByTurn, jobAt, turnAt}
 use Rattle.rules.specs.Lists.{Rising}
-use Rattle.rules.specs.Plan.{Course, Entry, Fated, Outcome, Turn, after, course, courseOf, fateDeadlock, fateIn, fateLate, fatePlanned, fateTold, inPlan, lateIn, leavesItsRing, ownFate, same, start, turn, turnOf}
+use Rattle.rules.specs.Plan.{Course, Outcome, Turn, after, course, courseOf, fateDeadlock, fateIn, fateLate, fatePlanned, fateTold, inPlan, lateIn, leavesItsRing, ownFate, same, start, turn, turnOf}
 use Rattle.rules.specs.TableText.{Records, noJob}
 use Rattle.rules.specs.Valid.{Valid}
 use Rattle.rules.specs.declared.Job.{Job}

@@ -1,7 +1,7 @@
 -- A valid table is in the ranges that the steps ask for, and its terms are those of its records. Assumes nothing.
 use mathlib.Core.Bool.{true}
 use mathlib.Core.List.{List, [], _∷_}
-use mathlib.Core.Path.{_≡_, refl, sym, ap, _∙_}
+use mathlib.Core.Path.{_≡_, refl, sym, ap}
 use Prim.Native.Nat.{ℕ, zero, suc, _-_, _≤_, _<_}
 use native.Mathlib.Omega.{arith}
 use lib.ListN.{getD, length, take}
@@ -11,13 +11,12 @@ use Rattle.columns.specs.Columns.{ColumnsOf, TermsOf}
 use Rattle.columns.specs.declared.Columns.{Columns}
 use Rattle.columns.specs.declared.Terms.{Terms}
 use Rattle.laws.proofs.Elements.{each-at-place}
-use Rattle.laws.proofs.Ranges.{HoldRanges, SpeedRanges, clock-ranges, hold-ranges, speed-ranges}
+use Rattle.laws.proofs.Ranges.{SpeedRanges, clock-ranges, hold-ranges, speed-ranges}
 use Rattle.plans.specs.Promises.{Concludable, Placed, Plannable, Runnable}
 use Rattle.plans.specs.declared.Course.{Course as Ran}
 use Rattle.rules.specs.Lists.{Each, lastOr}
 use Rattle.rules.specs.Plan.{topOf}
-use Rattle.rules.specs.TableText.{Record, Records, inRange, mostHolds, mostJobs, mostSpeeds, noHold, noSpeed, recordsOf}
-use Rattle.rules.specs.declared.Hold.{Hold}
+use Rattle.rules.specs.TableText.{Record, inRange, mostHolds, mostJobs, mostSpeeds, noHold, noSpeed, recordsOf}
 use Rattle.rules.specs.declared.Speed.{Speed}
 use Rattle.rules.specs.declared.Table.{Table}
 
@@ -91,8 +90,8 @@ module _ (table : Table) (p : Plannable table) (all-speeds : length (table .spee
     ranges = columns-in-range (recordsOf table .jobs) columns (p .valid .job-ranges) of
 
     pub table-runnable : length (table .holds) ≡ mostHolds
-        → Runnable (table .holds) (table .«hold_count») (columns .cycles) (columns .worth) (columns .termination)
-        (columns .request) terms
+        → Runnable (table .holds) (table .«hold_count») (columns .cycles) (columns .worth) (columns .critical)
+        (columns .termination) (columns .request) terms
     unfolding recordsOf
     table-runnable all-holds =
         let last = speed-in-range (table .«speed_count» - 1) (omega (arith, some-speed)) in
@@ -120,6 +119,7 @@ module _ (table : Table) (p : Plannable table) (all-speeds : length (table .spee
                 worth-small = ranges .worth;
                 request-small = ranges .request;
               };
+          critical-small = ranges .critical;
           cost-small = last .cost-to;
         }
 

@@ -2,17 +2,16 @@
 -- each job and then 0. Assumes nothing.
 use mathlib.Core.List.{List, [], _∷_, map}
 use mathlib.Core.Path.{_≡_, refl, sym, ap, _∙_}
-use Prim.Native.Nat.{ℕ, zero, suc, _≤_, _<_}
+use Prim.Native.Nat.{ℕ, suc, _≤_, _<_}
 use native.Mathlib.Omega.{arith}
 use lib.ListN.{getD, length, take}
 use lib.Seq.{length-take-le}
 use Rattle.columns.proofs.Entries.{length-jobs-at}
-use Rattle.columns.specs.Columns.{Column, ColumnsOf, jobsAt}
+use Rattle.columns.specs.Columns.{Column, jobsAt}
 use Rattle.laws.proofs.Planned.{fates-alone}
 use Rattle.plans.specs.Promises.{DecidedAs, leaves}
 use Rattle.plans.specs.declared.Decided.{Decided}
-use Rattle.rules.specs.Answers.{good}
-use Rattle.rules.specs.Plan.{AfterPlanning, courseOf, fateIn, fatesOf, leavesPlan, numbersOf, planFrom, planOf}
+use Rattle.rules.specs.Plan.{courseOf, fateIn, fatesOf, leavesPlan, numbersOf, planFrom, planOf}
 use Rattle.rules.specs.TableText.{Records, mostJobs, noJob, padded}
 use Rattle.rules.specs.declared.Decision.{Decision}
 use Rattle.rules.specs.declared.Job.{Job}

@@ -26,9 +26,8 @@ filled-and-cleared s front ys n l cleared =
     cleared ∙ ap (λ (k : ℕ). replicate k 0) (ap length (tail-is (front ++ drop n s) n ∙ rest) ∙ length-drop n s) in
     nothing-behind (front ++ drop n s) ys n ∙ rw (take-at front (drop n s) n l, zeros, l)
 
--- the same, where the front part is known by what was put there
-pub put-then-cleared : (s xs front ys : List ℕ) (n : ℕ) → length front ≡ n → xs ≡ front
-    → ys ≡ replicate (length (take (length (xs ++ drop n s) - n) (drop n (xs ++ drop n s)))) 0
-    → take n (xs ++ drop n s) ++ (ys ++ drop (length (xs ++ drop n s) - n) (drop n (xs ++ drop n s)))
-    ≡ padded (length s) 0 front
-put-then-cleared s xs front ys n l e cleared = rw e (filled-and-cleared s front ys n l (rw e at cleared))
+-- the same, where the buffer is known by what was put there
+pub put-then-cleared : (s s' front ys : List ℕ) (n : ℕ) → length front ≡ n → s' ≡ front ++ drop n s
+    → ys ≡ replicate (length (take (length s' - n) (drop n s'))) 0
+    → take n s' ++ (ys ++ drop (length s' - n) (drop n s')) ≡ padded (length s) 0 front
+put-then-cleared s s' front ys n l e cleared = rw e (filled-and-cleared s front ys n l (rw e at cleared))

@@ -1,13 +1,12 @@
 -- What a reading tells a planner: a table that was read is a valid one, no count beyond its places, of the records that the
 -- rules take; and a refusal is the rules'. Assumes nothing.
-use mathlib.Core.List.{List, []}
+use mathlib.Core.List.{List}
 use mathlib.Core.Path.{_≡_, refl, sym, ap, _∙_}
 use Prim.Native.Nat.{ℕ}
-use native.Mathlib.Omega.{arith}
 use Rattle.laws.proofs.Trips.{read-exactly, table-records, valid-few-holds}
 use Rattle.laws.proofs.Unique.{refusal-not-0, refusal-unique}
 use Rattle.plans.specs.Promises.{Plannable}
-use Rattle.rules.specs.Answers.{TableAnswer, numberOf, readingSays}
+use Rattle.rules.specs.Answers.{TableAnswer, readingSays}
 use Rattle.rules.specs.Refusals.{Taken, read, reading, refusedAt, tableAnswer, taken}
 use Rattle.rules.specs.TableText.{Records, recordsOf, tableOf}
 use Rattle.rules.specs.Valid.{Valid}

@@ -2,13 +2,13 @@
 -- Assumes nothing.
 use mathlib.Core.List.{List, map}
 use mathlib.Core.Path.{_≡_, sym, ap}
-use Prim.Native.Nat.{ℕ, _<_}
+use Prim.Native.Nat.{ℕ}
 use native.Mathlib.Omega.{arith}
 use lib.ListN.{length, take}
 use Rattle.columns.specs.Columns.{AllBelow}
 use Rattle.columns.specs.declared.Terms.{Terms}
 use Rattle.plans.specs.Courses.{courseBy, turnAt}
-use Rattle.plans.specs.Promises.{CourseBy, CourseRun, TurnsTaken}
+use Rattle.plans.specs.Promises.{CourseRun, TurnsTaken}
 use Rattle.plans.specs.declared.Course.{Course as Ran}
 use Rattle.ranks.specs.Promises.{RatioColumns, TurnOrder}
 use Rattle.ranks.specs.declared.Ratios.{Ratios}

@@ -4,14 +4,12 @@ use mathlib.Core.List.{List}
 use mathlib.Core.Path.{_≡_, refl, sym, ap, _∙_}
 use Prim.Native.Nat.{ℕ, _+_, _≤_, _<_}
 use native.Mathlib.Omega.{arith}
-use lib.Dec.{eqb}
 use lib.ListN.{getD, length, set, take}
 use lib.Seq.{getD-take, length-take-le}
 use Rattle.chains.specs.Stage.{fateSoFar}
 use Rattle.columns.proofs.Entries.{jobs-of-entries}
 use Rattle.columns.specs.declared.Terms.{Terms}
-use Rattle.entries.proofs.Found.{in-plan-where-inside}
-use Rattle.entries.proofs.Searches.{some-where-first-inside}
+use Rattle.entries.proofs.Found.{in-plan-among}
 use Rattle.plans.proofs.Courses.{fates-after, fates-at-start, one-more-turn, plan-after}
 use Rattle.plans.specs.Courses.{FatesByTurn, courseBy, jobAt, turnAt}
 use Rattle.plans.specs.Promises.{CourseBy, TurnsOf}
@@ -19,7 +17,7 @@ use Rattle.plans.specs.declared.Course.{Course as Ran}
 use Rattle.rules.specs.Lists.{Rising}
 use Rattle.rules.specs.Plan.{Course, Outcome, course, inPlan, jobsOf, start, turn}
 use Rattle.rules.specs.TableText.{Records}
-use Rattle.trials.specs.Promises.{OfJobs, Standing, TurnOf, TurnTaken, planIn}
+use Rattle.trials.specs.Promises.{OfJobs, TurnOf, TurnTaken, planIn}
 use Rattle.trials.specs.declared.Turned.{Turned}
 
 -- places, keys and fates stand for a course
@@ -83,20 +81,13 @@ module _ (t : Records) (order : List ℕ) (turn-count : ℕ) (over waits critica
           }
 
 -- after the last turn
-pub at-end : (t : Records) → (c : Course) (r : Ran) (keys : List ℕ) → Standing (r .count) (r .places) keys
-    → Rising (λ j. j .number) (t .jobs)
+pub at-end : (t : Records) → (c : Course) (r : Ran) (keys : List ℕ) → Rising (λ j. j .number) (t .jobs)
     → OnCourse t c (r .count) (r .places) keys (r .fates) → CourseBy t c r
-at-end t c r keys standing rising on =
+at-end t c r keys rising on =
     let ps = take (r .count) (r .places) in
-    let ks = take (r .count) keys in
-    let as-long : length ps ≡ length ks =
-    length-take-le (r .count) (r .places) (omega (arith, standing .places-length, standing .few))
-    ∙ sym (length-take-le (r .count) keys (omega (arith, standing .keys-length, standing .few))) in
     record {
-      jobs = sym (jobs-of-entries (t .jobs) ps ks as-long) ∙ ap jobsOf (on .plan);
+      jobs = sym (jobs-of-entries (t .jobs) keys ps) ∙ ap jobsOf (on .plan);
       planned = λ i h.
-          some-where-first-inside (eqb i) ps
-          ∙ sym (in-plan-where-inside (t .jobs) rising i h ps ks (on .of-jobs) as-long)
-          ∙ ap (inPlan (jobAt t i)) (on .plan);
+          sym (in-plan-among (t .jobs) rising keys i h ps (on .of-jobs)) ∙ ap (inPlan (jobAt t i)) (on .plan);
       fates = on .fates-by-turn;
     }

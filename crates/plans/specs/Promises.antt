@@ -26,10 +26,11 @@ use Rattle.rules.specs.declared.Table.{Table}
 use Rattle.trials.specs.Promises.{mostCost}
 
 -- What the course of turns asks: a turn count, places, columns, clock, speed and cost in their ranges.
-pub record Takeable (order : List ℕ) (turn-count : ℕ) (cycles termination : List ℕ) (terms : Terms) : Type 0 where
+pub record Takeable (order : List ℕ) (turn-count : ℕ) (critical cycles termination : List ℕ) (terms : Terms) : Type 0 where
   pub few-turns : turn-count ≤ mostJobs
   pub turns-there : turn-count ≤ length order
   pub below : AllBelow mostJobs (take turn-count order)
+  pub critical-small : AtMost mostTime critical
   pub cycles-small : AtMost mostCycles cycles
   pub termination-small : AtMost mostTime termination
   pub clock-small : terms .clock ≤ mostTime
@@ -69,9 +70,10 @@ pub record TurnsTaken (order : List ℕ) (turn-count : ℕ) (over waits critical
       → CourseBy t (courseBy t order turn-count) r
 
 -- Counts, resources, columns, clock, speed and cost in their ranges.
-pub record Runnable (holds : List Hold) (hold-count : ℕ) (cycles worth termination request : List ℕ) (terms : Terms)
+pub record Runnable (holds : List Hold) (hold-count : ℕ) (cycles worth critical termination request : List ℕ) (terms : Terms)
     : Type 0 where
   pub stageable : Stageable holds hold-count cycles worth termination request terms
+  pub critical-small : AtMost mostTime critical
   pub cost-small : terms .cost ≤ mostCost
 
 -- the columns side by side

@@ -2,18 +2,21 @@
 use columns::Columns;
 use columns::Terms;
 use columns::columns_of;
+use entries::copy_front;
 use entries::in_time;
 use entries::total_cycles;
 use ranks::chain_ratios;
 use ranks::turn_order;
 use remaining::take_out;
 use rules::Decision;
+use rules::FATE_PLANNED;
 use rules::Hold;
 use rules::MOST_HOLDS;
 use rules::MOST_JOBS;
 use rules::MOST_SPEEDS;
 use rules::Speed;
 use rules::Table;
+use trials::NOT_PLANNED;
 use trials::turn;
 ghost use mathlib.Core.List.{map};
 ghost use mathlib.Core.Path.{_≡_};
@@ -52,11 +55,12 @@ fn take_turns<'a>(
     so_far: [u64; MOST_JOBS],
     terms: Terms,
 ) -> Course
-    requires { ⌜ Takeable (now order) «turn_count» (now cycles) (now termination) terms ⌝ }
+    requires { ⌜ Takeable (now order) «turn_count» (now critical) (now cycles) (now termination) terms ⌝ }
     ensures { λ r. ⌜ TurnsTaken (now (order .entry)) «turn_count» (now (over .entry)) (now (waits .entry)) (now (critical .entry)) (now (cycles .entry)) (now (termination .entry)) «so_far» terms r ⌝ }
 {
     let mut places = [0; MOST_JOBS];
-    let mut keys = [0; MOST_JOBS];
+    let mut keys = [NOT_PLANNED; MOST_JOBS];
+    let mut spare = [0; MOST_JOBS];
     let mut count = 0;
     let mut fates = so_far;
     let mut i = 0;
@@ -65,6 +69,7 @@ fn take_turns<'a>(
         let turned = turn(
             &mut places,
             &mut keys,
+            &mut spare[..],
             count,
             place,
             over[place],
@@ -94,7 +99,7 @@ fn mark_planned(fates: [u64; MOST_JOBS], places: &[u64]) -> [u64; MOST_JOBS]
     let mut i = 0;
     while i < places.len() {
         let place = places[i] as usize;
-        marked[place] = 1;
+        marked[place] = FATE_PLANNED;
         i += 1;
     }
     marked
@@ -168,18 +173,6 @@ fn put_numbers(part: &mut [u64], places: &[u64], number: &[u64; MOST_JOBS])
     }
 }
 
-// A copy of these fates.
-fn copy_fates(part: &mut [u64], fates: &[u64])
-    requires { ⌜ length (now part) ≡ length (now fates) ⌝ }
-    ensures { λ _. ⌜ now (part .exit) ≡ now (fates .entry) ⌝ }
-{
-    let mut i = 0;
-    while i < part.len() {
-        part[i] = fates[i];
-        i += 1;
-    }
-}
-
 // "the plan is handed back as the front part of the lent order buffer, as job numbers; places after it hold 0".
 fn put_order(order: &mut [u64], places: &[u64], number: &[u64; MOST_JOBS])
     requires { ⌜ (length (now places) ≤ length (now order)) × AllBelow mostJobs (now places) ⌝ }
@@ -196,7 +189,7 @@ fn put_fates(out: &mut [u64], fates: &[u64])
     ensures { λ _. ⌜ now (out .exit) ≡ padded (length (now (out .entry))) 0 (now (fates .entry)) ⌝ }
 {
     let count = fates.len();
-    copy_fates(&mut out[..count], fates);
+    copy_front(out, fates, count);
     clear(&mut out[count..]);
 }
 
@@ -212,7 +205,7 @@ fn course_of<'a>(
     request: &'a [u64; MOST_JOBS],
     terms: Terms,
 ) -> Course
-    requires { ⌜ Runnable holds «hold_count» (now cycles) (now worth) (now termination) (now request) terms ⌝ }
+    requires { ⌜ Runnable holds «hold_count» (now cycles) (now worth) (now critical) (now termination) (now request) terms ⌝ }
     ensures { λ r. ⌜ CourseRun holds «hold_count» (now (number .entry)) (now (cycles .entry)) (now (worth .entry)) (now (critical .entry)) (now (termination .entry)) (now (request .entry)) terms r ⌝ }
 {
     let left = take_out(

@@ -6,6 +6,8 @@ use chains::late;
 use chains::leaves_ring;
 use chains::waits_for;
 use columns::Terms;
+use rules::FATE_DEADLOCK;
+use rules::FATE_LATE;
 use rules::Hold;
 use rules::MOST_HOLDS;
 use rules::MOST_JOBS;
@@ -31,7 +33,7 @@ fn fate_if_late(clock: u64, mhz: u64, cycles: u64, termination: u64) -> u64
     ensures { λ r. ⌜ r ≡ cond (not (endsBy clock mhz cycles termination)) fateLate 0 ⌝ }
 {
     if late(clock, mhz, cycles, termination) {
-        return 2;
+        return FATE_LATE;
     }
     0
 }
@@ -94,7 +96,7 @@ fn ring_fate<'a>(
         return late;
     }
     if leaves_ring(place, waits, number, worth, cycles) {
-        return 3;
+        return FATE_DEADLOCK;
     }
     0
 }

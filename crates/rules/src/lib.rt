@@ -12,6 +12,21 @@ pub const MOST_JOBS: usize = 64;
 
 pub const MOST_HOLDS: usize = 32;
 
+// Fates, as steps 1, 2, 5, 7 and 8 number them, and that of a job which has none yet.
+pub const NO_FATE: u64 = 0;
+
+pub const FATE_PLANNED: u64 = 1;
+
+pub const FATE_LATE: u64 = 2;
+
+pub const FATE_DEADLOCK: u64 = 3;
+
+pub const FATE_RATIO_ZERO: u64 = 4;
+
+pub const FATE_TIME: u64 = 5;
+
+pub const FATE_BUDGET: u64 = 6;
+
 // The test that every range is: from low to high, both counted in.
 pub fn within(low: u64, high: u64, n: u64) -> bool
     ensures { λ r. ⌜ r ≡ within low high n ⌝ }

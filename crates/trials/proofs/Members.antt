@@ -1,24 +1,32 @@
--- A member's step, in its three ways: the first index that holds the member's place is where the rules find its entry, so
--- that the rules leave the plan with one entry more, as it was, or with one entry moved. Assumes nothing.
+-- A member's step, in its three ways: the keys tell whether the rules find the member in the plan, and with which key,
+-- so that the rules leave the plan as it was, with one entry moved, or with one entry more. Assumes nothing.
 use mathlib.Core.List.{List}
 use mathlib.Core.Option.{none, some}
 use mathlib.Core.Path.{_≡_, sym, ap, _∙_}
-use Prim.Native.Nat.{ℕ, min, _+_, _-_, _≤_, _<_}
+use Prim.Native.Nat.{ℕ, min, _+_, _≤_, _<_}
+use native.Mathlib.Nat.{le-trans}
 use native.Mathlib.Omega.{arith}
-use borrow.Author.Tests.{le-ltb, lt-ltb}
+use borrow.Author.Tests.{le-leb, le-ltb, leb-true, lt-ltb}
+use lib.Dec.{leb}
 use lib.ListN.{length, getD, take}
-use lib.Seq.{getD-take}
-use Rattle.columns.specs.Columns.{entryAt}
-use Rattle.entries.proofs.Found.{found-inside, found-nowhere, remove-at-removes}
-use Rattle.entries.specs.Places.{indexOf}
-use Rattle.entries.specs.Promises.{Inserted, Removed}
-use Rattle.rules.specs.Lists.{Rising, find}
+use lib.Seq.{length-take-le, take-take}
+use Rattle.columns.specs.Columns.{entriesIn, entryAt}
+use Rattle.entries.proofs.Entries.{below-without}
+use Rattle.entries.proofs.Found.{found-among, removed-at-index}
+use Rattle.entries.proofs.Moved.{moved-to}
+use Rattle.entries.proofs.Searches.{first-at-most-length, first-without, index-holds}
+use Rattle.entries.specs.Places.{indexOf, placeFor, withAt, withoutAt}
+use Rattle.entries.specs.Promises.{Inserted}
+use Rattle.laws.proofs.Pairs.{among}
+use Rattle.rules.specs.Lists.{Rising, find, onlyIf}
 use Rattle.rules.specs.Plan.{Entry, Limited, insert, isOf, member, memberFound, memberNew, memberPlanned, remove}
 use Rattle.rules.specs.Plan.{staysBelow}
-use Rattle.rules.specs.TableText.{mostJobs, noJob}
+use Rattle.rules.specs.TableText.{noJob}
 use Rattle.rules.specs.declared.Job.{Job}
-use Rattle.trials.proofs.Once.{as-many-keys, inserted-stands, length-planned, moved-stands, none-planned}
-use Rattle.trials.specs.Promises.{Member, OfJobs, Standing, planIn}
+use Rattle.trials.proofs.Once.{Apart, apart-new, apart-taken-out, inserted-stands, inside, length-planned}
+use Rattle.trials.proofs.Once.{not-among, planned-among, put-in-below, put-in-inserts, put-in-stands}
+use Rattle.trials.specs.Promises.{Member, OfJobs, Steppable, notPlanned, planIn}
+use Rattle.trials.specs.declared.Limited.{Limited as Middle}
 
 -- the rules, by what they find of the member
 module _ (k : Job) (limit : ℕ) (p : List Entry) where
@@ -41,65 +49,120 @@ module _ (k : Job) (limit : ℕ) (p : List Entry) where
   unfolding member memberFound memberPlanned staysBelow
   member-moves e p' f h q = rw (q, f) (rw (le-ltb (e .key) limit h))
 
-module _ (count limit place critical at : ℕ) (places keys : List ℕ) (standing : Standing count places keys)
-    (h : place < mostJobs) (e : at ≡ indexOf place (take count places)) where
-  -- "one not in the plan lowers the limit .., and is inserted at the limit"
-  pub member-inserted : (lowered : ℕ) (places' keys' : List ℕ) → count ≤ at → lowered ≡ min limit critical
-      → Inserted count place lowered places keys places' keys'
-      → Member count limit place critical places keys places' keys' (record { count = count + 1; limit = lowered })
-  member-inserted lowered places' keys' l m inserted =
-      let new = none-planned count places keys standing place (omega arith) in
+module _ (from : Middle) (place critical : ℕ) (places keys : List ℕ) (able : Steppable from place places keys) where
+  abbrev count : ℕ
+  count = from .count
+
+  abbrev planned : List ℕ
+  planned = take count places
+
+  abbrev key : ℕ
+  key = getD keys place 0
+
+  -- the rules find the member where its place is planned, with its own key
+  member-found : (js : List Job) → Rising (λ j. j .number) js → OfJobs js count places → place < length js
+      → find (isOf (getD js place noJob)) (planIn js count places keys)
+      ≡ onlyIf (among planned place) (entryAt js keys place)
+  member-found js rising below of-job = found-among js rising keys place of-job planned below
+
+  -- "a member in the plan with key below the limit stays, and the limit becomes that key"
+  pub member-kept : key < from .limit
+      → Member from place critical places keys places keys (record { count = count; limit = key; near = from .near })
+  member-kept l =
+      let there = planned-among count places keys (able .standing) place (able .place-below)
+      (omega (arith, able .limit-small)) in
       record {
-        standing = inserted-stands count places keys standing place h new lowered places' keys' inserted;
+        standing = able .standing;
+        not-above = omega arith;
+        near-inside = able .near-inside;
         limited = λ js rising below of-job critical-of.
-            new-member (getD js place noJob) limit (planIn js count places keys) lowered critical
-            (planIn js (count + 1) places' keys')
-            (found-nowhere js rising place of-job (take count places) (take count keys) below
-            (as-many-keys count places keys standing) (omega (arith, length-planned count places keys standing)))
-            critical-of m (inserted .entries js);
-        of-jobs = λ js below of-job. inserted .below (length js) below of-job;
+            member-stays (getD js place noJob) (from .limit) (planIn js count places keys) (entryAt js keys place)
+            (rw there at (member-found js rising below of-job)) l;
+        of-jobs = λ js below of-job. below;
       }
 
-  module _ (l : at < count) where
-    -- the rules find the member with the key at its index
-    member-found : (js : List Job) → Rising (λ j. j .number) js → OfJobs js count places → place < length js
-        → find (isOf (getD js place noJob)) (planIn js count places keys) ≡ some (entryAt js place (getD keys at 0))
-    member-found js rising below of-job =
-        found-inside js rising place of-job (take count places) (take count keys) below
-        (as-many-keys count places keys standing) (omega (arith, length-planned count places keys standing))
-        ∙ ap (λ k. some (entryAt js place k)) (rw (sym e) (getD-take count keys at 0 l))
+  -- "one with key at or above the limit is removed and inserted at the limit": put in among those before it, over
+  -- itself, since all behind it have keys at or above the limit too
+  module _ (l : from .limit ≤ key) (is-planned : key < notPlanned) (at : ℕ) (e : at ≡ indexOf place planned) where
+    pub at-inside : at < count
+    at-inside = omega (arith, inside count places keys (able .standing) place (able .place-below) is-planned)
 
-    -- "a member in the plan with key below the limit stays, and the limit becomes that key"
-    pub member-kept : getD keys at 0 < limit
-        → Member count limit place critical places keys places keys (record { count = count; limit = getD keys at 0 })
-    member-kept below-limit = record {
-      standing = standing;
-      limited = λ js rising below of-job critical-of.
-          member-stays (getD js place noJob) limit (planIn js count places keys) (entryAt js place (getD keys at 0))
-          (member-found js rising below of-job) below-limit;
-      of-jobs = λ js below of-job. below;
-    }
+    abbrev others : List ℕ
+    others = withoutAt at planned
 
-    -- "one with key at or above the limit is removed and inserted at the limit"
-    pub member-moved : (places' keys' places'' keys'' : List ℕ) → limit ≤ getD keys at 0
-        → Removed count at places keys places' keys'
-        → Inserted (count - 1) place limit places' keys' places'' keys''
-        → Member count limit place critical places keys places'' keys'' (record { count = count; limit = limit })
-    member-moved places' keys' places'' keys'' not-below removed inserted =
-        let as-many : count - 1 + 1 ≡ count = omega arith in
-        record {
-          standing =
-              moved-stands count at place limit places keys places' keys' places'' keys'' standing l h e removed inserted;
-          limited = λ js rising below of-job critical-of.
-              member-moves (getD js place noJob) limit (planIn js count places keys)
-              (entryAt js place (getD keys at 0)) (planIn js count places'' keys'')
-              (member-found js rising below of-job) not-below
-              (ap (λ n. planIn js n places'' keys'') (sym as-many)
-              ∙ inserted .entries js
-              ∙ ap (insert (getD js place noJob) limit)
-              (remove-at-removes js rising place of-job count at places keys places' keys'
-              (omega (arith, standing .few, standing .places-length))
-              (omega (arith, standing .few, standing .keys-length)) below e removed));
-          of-jobs = λ js below of-job.
-              rw as-many at (inserted .below (length js) (removed .below (length js) below) of-job);
-        }
+    apart : Apart place others keys
+    apart = rw e (apart-taken-out count places keys (able .standing) place (able .place-below))
+
+    -- the limit's place among all others is that among those before the member
+    same-place-for : placeFor (from .limit) keys (take at places) ≡ placeFor (from .limit) keys others
+    same-place-for =
+        let many = length-planned count places keys (able .standing) in
+        let held : getD planned at 0 ≡ place = rw e (index-holds place planned (omega (arith, many, at-inside))) in
+        ap (placeFor (from .limit) keys) (sym (take-take at count places (omega (arith, at-inside))))
+        ∙ first-without (λ p. leb (from .limit) (getD keys p 0))
+        (λ p q m g. le-leb (from .limit) (getD keys q 0) (le-trans (leb-true (from .limit) (getD keys p 0) g) m)) at 0
+        (able .standing .sorted) (omega (arith, many, at-inside)) (rw held (le-leb (from .limit) key l))
+
+    rules-remove : (js : List Job) → Rising (λ j. j .number) js → OfJobs js count places → place < length js
+        → entriesIn js keys others ≡ remove (getD js place noJob) (planIn js count places keys)
+    rules-remove js rising below of-job = rw e (sym (removed-at-index js rising keys place of-job planned below))
+
+    module _ (places' keys' : List ℕ) (inserted : Inserted at place (from .limit) places keys places' keys') where
+      moved : take count places' ≡ withAt (placeFor (from .limit) keys others) place others
+      moved =
+          let to = placeFor (from .limit) keys (take at places) in
+          let long : count ≤ length places = omega (arith, able .standing .few, able .standing .places-length) in
+          moved-to to at count place places places'
+          (omega (
+            arith,
+            first-at-most-length (λ p. leb (from .limit) (getD keys p 0)) (take at places),
+            length-take-le at places (omega (arith, at-inside)),
+          ))
+          at-inside long (inserted .fronted)
+          ∙ ap (λ n. withAt n place others) same-place-for
+
+      pub member-moved : Member from place critical places keys places' keys'
+          (record { count = count; limit = from .limit; near = at })
+      member-moved =
+          let there = planned-among count places keys (able .standing) place (able .place-below) is-planned in
+          let stored = inserted .key-stored in
+          record {
+            standing =
+                put-in-stands place others keys apart count (from .limit) places' keys' moved stored
+                (inserted .fronted .whole ∙ able .standing .places-length) (able .standing .few)
+                (omega (arith, able .limit-small));
+            not-above = omega arith;
+            near-inside = at-inside;
+            limited = λ js rising below of-job critical-of.
+                member-moves (getD js place noJob) (from .limit) (planIn js count places keys) (entryAt js keys place)
+                (planIn js count places' keys') (rw there at (member-found js rising below of-job)) l
+                (put-in-inserts place others keys apart count (from .limit) places' keys' moved stored js
+                ∙ ap (insert (getD js place noJob) (from .limit)) (rules-remove js rising below of-job));
+            of-jobs = λ js below of-job.
+                put-in-below place others keys apart count (from .limit) places' keys' moved stored (length js)
+                (below-without (length js) at planned below) of-job;
+          }
+
+  -- "one not in the plan lowers the limit .., and is inserted at the limit"
+  pub member-inserted : notPlanned ≤ key → (lowered : ℕ) (places' keys' : List ℕ)
+      → lowered ≡ min (from .limit) critical → Inserted count place lowered places keys places' keys'
+      → Member from place critical places keys places' keys'
+      (record { count = count + 1; limit = lowered; near = from .near })
+  member-inserted l lowered places' keys' m inserted =
+      let apart = apart-new count places keys (able .standing) place (able .place-below) l in
+      let absent = not-among count places keys (able .standing) place (able .place-below) l in
+      let front = inserted .fronted .front in
+      let stored = inserted .key-stored in
+      record {
+        standing =
+            inserted-stands count places keys (able .standing) place (able .place-below) l lowered places' keys'
+            (omega (arith, able .limit-small)) inserted;
+        not-above = omega arith;
+        near-inside = omega (arith, able .near-inside);
+        limited = λ js rising below of-job critical-of.
+            new-member (getD js place noJob) (from .limit) (planIn js count places keys) lowered critical
+            (planIn js (count + 1) places' keys') (rw absent at (member-found js rising below of-job)) critical-of m
+            (put-in-inserts place planned keys apart (count + 1) lowered places' keys' front stored js);
+        of-jobs = λ js below of-job.
+            put-in-below place planned keys apart (count + 1) lowered places' keys' front stored (length js) below of-job;
+      }

@@ -1,237 +1,277 @@
--- A plan of places, none twice, with one put in that it does not have, or with one taken out, has none twice either: the
--- places are read off the entries of a table in which each job has its place for a number. Places below 64, none twice,
+-- A plan of places in the order of their keys, none twice, with one put in that it does not have, or with one taken
+-- out, has none twice either, stands in that order, and has its keys tell which are in it. Places below 64, none twice,
 -- are at most 64, so that there is room for one more that the plan does not have. Assumes nothing.
-use mathlib.Core.Bool.{Bool, true, false}
-use mathlib.Core.List.{List, [], _∷_, map}
+use mathlib.Core.Bool.{Bool, true, false, _||_}
+use mathlib.Core.List.{List, [], _∷_}
 use mathlib.Core.Path.{_≡_, refl, sym, ap, _∙_}
-use Prim.Native.Nat.{ℕ, zero, suc, _+_, _-_, _≤_, _<_}
+use Prim.Native.Nat.{ℕ, zero, suc, _+_, _≤_, _<_}
+use native.Mathlib.Nat.{le-trans}
 use native.Mathlib.Omega.{arith}
-use borrow.Author.Tests.{eq-eqb, eqb-true, le-ltb, ltb-false}
-use lib.Dec.{eqb, ltb}
-use lib.ListN.{length, getD, take}
-use lib.Seq.{length-take-le}
+use borrow.Author.Tests.{eqb-false, eqb-true, le-ltb, leb-false, leb-true, lt-ltb, ltb-true}
+use lib.Dec.{eqb, leb, ltb}
+use lib.ListN.{length, getD, length-set, set, take}
+use lib.Seq.{getD-set-other, getD-set-same, getD-take, length-take-le}
 use Rattle.columns.specs.Columns.{AllBelow, entriesIn}
-use Rattle.entries.proofs.Searches.{first-at-most-length, some-where-first-inside}
-use Rattle.entries.specs.Places.{firstWhere, indexOf, withoutAt}
-use Rattle.entries.specs.Promises.{Inserted, Removed}
-use Rattle.laws.proofs.Choices.{eqb-swap, or-right, split}
+use Rattle.entries.proofs.Entries.{below-with, below-without, entries-with}
+use Rattle.entries.proofs.Searches.{some-where-first-inside}
+use Rattle.entries.specs.Places.{firstWhere, indexOf, placeFor, withAt, withoutAt}
+use Rattle.entries.specs.Promises.{Inserted}
+use Rattle.laws.proofs.Choices.{eqb-swap, split}
 use Rattle.laws.proofs.Elements.{each-too}
-use Rattle.laws.proofs.Lookups.{any-map, any-none, length-map}
-use Rattle.laws.proofs.Pairs.{Distinct, Pairwise, among, no-longer, no-pair, pairs-map, pairs-place-apart, _then_}
-use Rattle.rules.specs.Lists.{Each, any, none-left, place, _and_}
-use Rattle.rules.specs.Plan.{Entry, goesBefore, insert}
+use Rattle.laws.proofs.Lookups.{any-none, each-both, none-any}
+use Rattle.laws.proofs.Pairs.{Distinct, Pairwise, among, no-longer, no-pair, pairs-too, _then_}
+use Rattle.rules.specs.Lists.{Each, none-left, _and_}
+use Rattle.rules.specs.Plan.{insert}
 use Rattle.rules.specs.TableText.{mostJobs, noJob}
 use Rattle.rules.specs.declared.Job.{Job}
-use Rattle.trials.specs.Promises.{Standing}
+use Rattle.trials.specs.Promises.{Sorted, Standing, notPlanned, planIn}
 
--- so many jobs, numbered from n on
-numberedFrom : ℕ → ℕ → List Job
-numberedFrom n zero = []
-numberedFrom n (suc m) =
-    record { number = n; cycles = 0; worth = 0; critical = 0; termination = 0; request = 0 } ∷ numberedFrom (suc n) m
+or-swap : (a b c : Bool) → a || (b || c) ≡ b || (a || c)
+or-swap true true c = refl
+or-swap true false c = refl
+or-swap false b c = refl
 
-number-from : (n m p : ℕ) → p < m → getD (numberedFrom n m) p noJob .number ≡ n + p
-unfolding numberedFrom
-number-from n zero p h = absurd (omega arith)
-number-from n (suc m) zero h = omega arith
-number-from n (suc m) (suc p) h = number-from (suc n) m p (omega arith) ∙ omega arith
+-- one put in
+among-with : (at n : ℕ) (ns : List ℕ) (m : ℕ) → among (withAt at n ns) m ≡ eqb m n || among ns m
+among-with zero n ns m = refl
+among-with (suc at) n [] m = refl
+among-with (suc at) n (k ∷ ns) m = rw (among-with at n ns m) (or-swap (eqb m k) (eqb m n) (among ns m))
 
-length-numbered : (n m : ℕ) → length (numberedFrom n m) ≡ m
-unfolding numberedFrom
-length-numbered n zero = refl
-length-numbered n (suc m) = ap suc (length-numbered (suc n) m)
+each-with : {P : ℕ → Type 0} (at n : ℕ) {ns : List ℕ} → P n → Each P ns → Each P (withAt at n ns)
+each-with zero n p ps = p and ps
+each-with (suc at) n p none-left = p and none-left
+each-with (suc at) n p (q and qs) = q and each-with at n p qs
 
--- a job at each place, numbered by its place
-numbered : List Job
-numbered = numberedFrom 0 mostJobs
+with-once : (at n : ℕ) {ns : List ℕ} → Each (λ m. eqb n m ≡ false) ns → Distinct ns → Distinct (withAt at n ns)
+with-once zero n new once = new then once
+with-once (suc at) n none-left no-pair = none-left then no-pair
+with-once (suc at) n {ns = k ∷ ns} (d and new) (r then rs) =
+    each-with at n (eqb-swap k n ∙ d) r then with-once at n new rs
 
-number-at : (p : ℕ) → p < mostJobs → getD numbered p noJob .number ≡ p
-unfolding numbered
-number-at p h = number-from 0 mostJobs p h ∙ omega arith
-
-abbrev numberIn : Entry → ℕ
-numberIn e = e .job .number
-
-read-off : (ps ks : List ℕ) → AllBelow mostJobs ps → length ps ≡ length ks → map numberIn (entriesIn numbered ps ks) ≡ ps
-read-off [] ks below e = refl
-read-off (p ∷ ps) [] below e = absurd (omega arith)
-read-off (p ∷ ps) (k ∷ ks) below e =
-    rw (number-at p (below 0 (omega arith)), read-off ps ks (λ i l. below (suc i) (omega arith)) (omega arith))
-
--- what holds of each and of any two after a map
-module _ {A B : Type 0} (f : A → B) where
-  each-of-map : {P : B → Type 0} (xs : List A) → Each P (map f xs) → Each (λ x. P (f x)) xs
-  each-of-map [] none-left = none-left
-  each-of-map (x ∷ xs) (p and ps) = p and each-of-map xs ps
-
-  pairs-of-map : {R : B → B → Type 0} (xs : List A) → Pairwise R (map f xs) → Pairwise (λ x y. R (f x) (f y)) xs
-  pairs-of-map [] no-pair = no-pair
-  pairs-of-map (x ∷ xs) (r then rs) = each-of-map xs r then pairs-of-map xs rs
-
-  without-map : (at : ℕ) (xs : List A) → map f (withoutAt at xs) ≡ withoutAt at (map f xs)
-  unfolding withoutAt
-  without-map at [] = refl
-  without-map zero (x ∷ xs) = refl
-  without-map (suc at) (x ∷ xs) = ap {B = List B} (λ r. f x ∷ r) (without-map at xs)
-
--- n is none of the numbers
-abbrev pub NoneOf : List ℕ → ℕ → Type 0
-NoneOf ns n = Each (λ m. eqb n m ≡ false) ns
-
-placed-once : {A : Type 0} (f : A → ℕ) (before : A → A → Bool) (x : A) (xs : List A) → NoneOf (map f xs) (f x)
-    → Distinct (map f xs) → Distinct (map f (place before x xs))
-placed-once f before x xs new once =
-    pairs-map {R = λ m n. eqb m n ≡ false} f
-    (pairs-place-apart {R = λ y z. eqb (f y) (f z) ≡ false} (λ y z d. eqb-swap (f z) (f y) ∙ d) before x
-    (each-of-map f xs new) (pairs-of-map f xs once))
-
-inserted-once : (j : Job) (key : ℕ) (p : List Entry) → NoneOf (map numberIn p) (j .number) → Distinct (map numberIn p)
-    → Distinct (map numberIn (insert j key p))
-unfolding insert
-inserted-once j key p new once = placed-once numberIn goesBefore (record { job = j; key = key }) p new once
-
+-- one taken out
 each-without : {P : ℕ → Type 0} (at : ℕ) {ns : List ℕ} → Each P ns → Each P (withoutAt at ns)
 unfolding withoutAt
 each-without at none-left = none-left
 each-without zero (p and ps) = ps
 each-without (suc at) (p and ps) = p and each-without at ps
 
-without-once : (at : ℕ) {ns : List ℕ} → Distinct ns → Distinct (withoutAt at ns)
+pairs-without : {R : ℕ → ℕ → Type 0} (at : ℕ) {ns : List ℕ} → Pairwise R ns → Pairwise R (withoutAt at ns)
 unfolding withoutAt
-without-once at no-pair = no-pair
-without-once zero (r then rs) = rs
-without-once (suc at) (r then rs) = each-without at r then without-once at rs
+pairs-without at no-pair = no-pair
+pairs-without zero (r then rs) = rs
+pairs-without (suc at) (r then rs) = each-without at r then pairs-without at rs
 
 -- what stands once and is taken out is there no more
-taken-out-is-gone : (n : ℕ) {ns : List ℕ} → Distinct ns → NoneOf (withoutAt (indexOf n ns) ns) n
+taken-out-is-gone : (n : ℕ) {ns : List ℕ} → Distinct ns → among (withoutAt (indexOf n ns) ns) n ≡ false
 unfolding withoutAt firstWhere
-taken-out-is-gone n no-pair = none-left
+taken-out-is-gone n no-pair = refl
 taken-out-is-gone n {ns = m ∷ ns} (r then rs) =
     split (eqb n m)
-    (λ g. rw g (each-too (λ k d. ap (λ a. eqb a k) (eqb-true n m g) ∙ d) r))
-    (λ g. rw g (g and taken-out-is-gone n rs))
+    (λ g. rw g (none-any (eqb n) (each-too (λ k d. ap (λ a. eqb a k) (eqb-true n m g) ∙ d) r)))
+    (λ g. rw g (rw g (taken-out-is-gone n rs)))
 
-none-where-not-found : (n : ℕ) (ns : List ℕ) → length ns ≤ indexOf n ns → NoneOf ns n
-none-where-not-found n ns h = any-none (eqb n) ns (some-where-first-inside (eqb n) ns ∙ le-ltb _ _ h)
+others-stay : (n : ℕ) (ns : List ℕ) (m : ℕ) → eqb m n ≡ false → among (withoutAt (indexOf n ns) ns) m ≡ among ns m
+unfolding withoutAt firstWhere
+others-stay n [] m d = refl
+others-stay n (k ∷ ns) m d =
+    split (eqb n k)
+    (λ g. rw g (rw (ap (eqb m) (sym (eqb-true n k g)) ∙ d)))
+    (λ g. rw g (rw (others-stay n ns m d)))
 
-any-at : {A : Type 0} (p : A → Bool) (xs : List A) (i : ℕ) (d : A) → i < length xs → p (getD xs i d) ≡ true
-    → any p xs ≡ true
-any-at p [] i d h e = absurd (omega arith)
-any-at p (x ∷ xs) zero d h e = rw e
-any-at p (x ∷ xs) (suc i) d h e = or-right (p x) (any p xs) (any-at p xs i d (omega arith) e)
+-- so many places, from n on
+placesFrom : ℕ → ℕ → List ℕ
+placesFrom n zero = []
+placesFrom n (suc m) = n ∷ placesFrom (suc n) m
 
--- the places that there are
-abbrev allPlaces : List ℕ
-allPlaces = map (λ (j : Job). j .number) numbered
+length-places : (n m : ℕ) → length (placesFrom n m) ≡ m
+unfolding placesFrom
+length-places n zero = refl
+length-places n (suc m) = ap suc (length-places (suc n) m)
 
-among-all : (p : ℕ) → p < mostJobs → among allPlaces p ≡ true
-unfolding numbered
-among-all p h =
-    any-map (eqb p) (λ (j : Job). j .number) numbered
-    ∙ any-at (λ (j : Job). eqb p (j .number)) numbered p noJob (omega (arith, length-numbered 0 mostJobs))
-    (eq-eqb p _ (sym (number-at p h)))
+among-places : (n m p : ℕ) → n ≤ p → p < n + m → among (placesFrom n m) p ≡ true
+unfolding placesFrom
+among-places n zero p h l = absurd (omega arith)
+among-places n (suc m) p h l =
+    split (eqb p n) (λ g. rw g)
+    (λ g. rw g (among-places (suc n) m p (omega (arith, eqb-false p n g)) (omega arith)))
 
-each-among : (ps : List ℕ) → AllBelow mostJobs ps → Each (λ p. among allPlaces p ≡ true) ps
-each-among [] below = none-left
-each-among (p ∷ ps) below =
-    among-all p (below 0 (omega arith)) and each-among ps (λ i l. below (suc i) (omega arith))
+each-place : (ps : List ℕ) → AllBelow mostJobs ps → Each (λ p. among (placesFrom 0 mostJobs) p ≡ true) ps
+each-place [] below = none-left
+each-place (p ∷ ps) below =
+    among-places 0 mostJobs p (omega arith) (omega (arith, below 0 (omega arith)))
+    and each-place ps (λ i l. below (suc i) (omega arith))
 
-length-all : length allPlaces ≡ mostJobs
-unfolding numbered
-length-all = length-map (λ (j : Job). j .number) numbered ∙ length-numbered 0 mostJobs
+-- places below 64, none twice, are at most 64
+at-most-all : (ps : List ℕ) → AllBelow mostJobs ps → Distinct ps → length ps ≤ mostJobs
+at-most-all ps below once =
+    omega (arith, no-longer (placesFrom 0 mostJobs) once (each-place ps below), length-places 0 mostJobs)
 
--- a place more, below 64 and none of those that stand once each: they are fewer than 64
-fewer-than-all : (p : ℕ) (ps : List ℕ) → p < mostJobs → AllBelow mostJobs ps → Distinct ps → NoneOf ps p
-    → length ps < mostJobs
-fewer-than-all p ps h below once new =
-    omega
-    (arith, no-longer {ns = p ∷ ps} allPlaces (new then once) (among-all p h and each-among ps below), length-all)
+-- a key stored for a place that is none of these
+module _ (keys : List ℕ) (place key : ℕ) (h : place < length keys) where
+  abbrev keys' : List ℕ
+  keys' = set keys place key
 
-front-read-off : (count : ℕ) (places keys : List ℕ) → length places ≡ mostJobs → length keys ≡ mostJobs
-    → count ≤ mostJobs → AllBelow mostJobs (take count places)
-    → map numberIn (entriesIn numbered (take count places) (take count keys)) ≡ take count places
-front-read-off count places keys p k few below =
-    read-off (take count places) (take count keys) below
-    (length-take-le count places (omega arith) ∙ sym (length-take-le count keys (omega arith)))
+  stored : getD keys' place 0 ≡ key
+  stored = getD-set-same keys place key 0 h
 
-module _ (count : ℕ) (places keys : List ℕ) (standing : Standing count places keys) where
-  pub length-planned : length (take count places) ≡ count
-  length-planned = length-take-le count places (omega (arith, standing .few, standing .places-length))
+  kept : (p : ℕ) → eqb place p ≡ false → getD keys' p 0 ≡ getD keys p 0
+  kept p d = getD-set-other keys place p key 0 (λ e. eqb-false place p d (sym e))
 
-  pub as-many-keys : length (take count places) ≡ length (take count keys)
-  as-many-keys = length-planned ∙ sym (length-take-le count keys (omega (arith, standing .few, standing .keys-length)))
+  all-kept : {ps : List ℕ} → Each (λ p. eqb place p ≡ false) ps → Sorted keys ps → Sorted keys' ps
+  all-kept = pairs-too {P = λ p. eqb place p ≡ false} (λ p q d e l. rw (kept p d, kept q e) l)
 
-  planned-read-off : map numberIn (entriesIn numbered (take count places) (take count keys)) ≡ take count places
-  planned-read-off =
-      front-read-off count places keys (standing .places-length) (standing .keys-length) (standing .few) (standing .below)
+  -- put in where it goes, it stands in the order of the keys
+  sorted-with : {ps : List ℕ} → Each (λ p. eqb place p ≡ false) ps → Sorted keys ps
+      → Sorted keys' (withAt (placeFor key keys ps) place ps)
+  unfolding firstWhere
+  sorted-with none-left no-pair = none-left then no-pair
+  sorted-with {ps = p ∷ ps} (d and ds) (r then rs) =
+      split (leb key (getD keys p 0))
+      (λ g.
+      let l = leb-true key (getD keys p 0) g in
+      let first : getD keys' place 0 ≤ getD keys' p 0 = rw (stored, kept p d) l in
+      rw g
+      ((first and each-both (λ q e m. rw (stored, kept q e) (le-trans l m)) ds r)
+      then all-kept (d and ds) (r then rs)))
+      (λ g.
+      let l = leb-false key (getD keys p 0) g in
+      let behind : getD keys' p 0 ≤ getD keys' place 0 = rw (stored, kept p d) (omega arith) in
+      rw g
+      (each-with (placeFor key keys ps) place behind
+      (each-both (λ q e m. rw (kept p d, kept q e) m) ds r)
+      then sorted-with ds rs))
 
-  pub none-planned : (place : ℕ) → count ≤ indexOf place (take count places) → NoneOf (take count places) place
-  none-planned place h = none-where-not-found place (take count places) (omega (arith, length-planned))
+-- a plan's places without this one, whose keys tell of all others which are in the plan
+pub record Apart (place : ℕ) (ps keys : List ℕ) : Type 0 where
+  pub keys-length : length keys ≡ mostJobs
+  pub below : AllBelow mostJobs ps
+  pub once : Distinct ps
+  pub sorted : Sorted keys ps
+  pub place-below : place < mostJobs
+  pub new : among ps place ≡ false
+  pub others : (p : ℕ) → p < mostJobs → eqb p place ≡ false → ltb (getD keys p 0) notPlanned ≡ among ps p
 
-  -- the first index that holds a place is the end of the plan where it is not inside
-  pub not-inside : (place : ℕ) → false ≡ ltb (indexOf place (take count places)) count
-      → indexOf place (take count places) ≡ count
-  not-inside place e =
-      let outside = ltb-false (indexOf place (take count places)) count (sym e) in
-      omega (arith, first-at-most-length (eqb place) (take count places), length-planned)
+module _ (place : ℕ) (ps keys : List ℕ) (apart : Apart place ps keys) where
+  none-of : Each (λ p. eqb place p ≡ false) ps
+  none-of = any-none (eqb place) ps (apart .new)
 
-  -- one more: it is none of those that are there
-  module _ (place : ℕ) (h : place < mostJobs) (new : NoneOf (take count places) place) where
-    pub room-for-one-more : count < mostJobs
-    room-for-one-more =
-        omega
-        (arith, fewer-than-all place (take count places) h (standing .below) (standing .once) new, length-planned)
+  key-there : place < length keys
+  key-there = omega (arith, apart .keys-length, apart .place-below)
 
-    pub inserted-stands : (key : ℕ) (places' keys' : List ℕ) → Inserted count place key places keys places' keys'
-        → Standing (count + 1) places' keys'
-    inserted-stands key places' keys' inserted =
-        let places-long = inserted .places-length ∙ standing .places-length in
-        let keys-long = inserted .keys-length ∙ standing .keys-length in
-        let few : count + 1 ≤ mostJobs = omega (arith, room-for-one-more) in
-        let below = inserted .below mostJobs (standing .below) h in
-        let read = ap (map numberIn) (sym (inserted .entries numbered))
-        ∙ front-read-off (count + 1) places' keys' places-long keys-long few below in
-        let once = inserted-once (getD numbered place noJob) key (entriesIn numbered (take count places) (take count keys))
-        (rw (planned-read-off, number-at place h) new) (rw planned-read-off (standing .once)) in
+  room-for-one-more : length ps < mostJobs
+  room-for-one-more =
+      omega (
+        arith,
+        at-most-all (place ∷ ps) (below-with mostJobs 0 place ps (apart .below) (apart .place-below))
+            (with-once 0 place none-of (apart .once)),
+      )
+
+  -- with the key stored, the keys tell of all places
+  keys-tell-with : (at key p : ℕ) → key < notPlanned → p < mostJobs
+      → ltb (getD (set keys place key) p 0) notPlanned ≡ among (withAt at place ps) p
+  keys-tell-with at key p l h =
+      rw (among-with at place ps p)
+      (split (eqb p place)
+      (λ g. rw (g, eqb-true p place g, stored keys place key key-there) (lt-ltb key notPlanned l))
+      (λ g. rw (g, kept keys place key key-there p (eqb-swap place p ∙ g)) (apart .others p h g)))
+
+  -- put in at a key: a plan, whose entries are those with one inserted
+  module _ (count key : ℕ) (places' keys' : List ℕ) (front : take count places' ≡ withAt (placeFor key keys ps) place ps)
+      (key-stored : keys' ≡ set keys place key) where
+    pub put-in-stands : length places' ≡ mostJobs → count ≤ mostJobs → key < notPlanned → Standing count places' keys'
+    put-in-stands whole few l =
+        let at = placeFor key keys ps in
         record {
-          places-length = places-long;
-          keys-length = keys-long;
+          places-length = whole;
+          keys-length = rw key-stored (length-set keys place key ∙ apart .keys-length);
           few = few;
-          below = below;
-          once = rw read at once;
+          below = rw front (below-with mostJobs at place ps (apart .below) (apart .place-below));
+          once = rw front (with-once at place none-of (apart .once));
+          sorted = rw (front, key-stored) (sorted-with keys place key key-there none-of (apart .sorted));
+          keys-tell = λ p h. rw (front, key-stored) (keys-tell-with at key p l h);
         }
 
-  -- one fewer: the places without that at the index
-  module _ (at : ℕ) (places' keys' : List ℕ) (removed : Removed count at places keys places' keys') where
-    places-left : take (count - 1) places' ≡ withoutAt at (take count places)
-    places-left =
-        sym
-        (front-read-off (count - 1) places' keys' (removed .places-length ∙ standing .places-length)
-        (removed .keys-length ∙ standing .keys-length) (omega (arith, standing .few))
-        (removed .below mostJobs (standing .below)))
-        ∙ ap (map numberIn) (removed .entries numbered)
-        ∙ without-map numberIn at (entriesIn numbered (take count places) (take count keys))
-        ∙ ap (withoutAt at) planned-read-off
+    pub put-in-inserts : (js : List Job) → planIn js count places' keys'
+        ≡ insert (getD js place noJob) key (entriesIn js keys ps)
+    put-in-inserts js = rw (front, key-stored) (entries-with js keys place key key-there ps (apart .new))
 
-    pub removed-stands : Standing (count - 1) places' keys'
-    removed-stands = record {
-      places-length = removed .places-length ∙ standing .places-length;
-      keys-length = removed .keys-length ∙ standing .keys-length;
-      few = omega (arith, standing .few);
-      below = removed .below mostJobs (standing .below);
-      once = rw places-left (without-once at (standing .once));
+    pub put-in-below : (n : ℕ) → AllBelow n ps → place < n → AllBelow n (take count places')
+    put-in-below n below h = rw front (below-with n (placeFor key keys ps) place ps below h)
+
+module _ (count : ℕ) (places keys : List ℕ) (standing : Standing count places keys) where
+  abbrev planned : List ℕ
+  planned = take count places
+
+  pub length-planned : length planned ≡ count
+  length-planned = length-take-le count places (omega (arith, standing .few, standing .places-length))
+
+  module _ (place : ℕ) (h : place < mostJobs) where
+    pub not-among : notPlanned ≤ getD keys place 0 → among planned place ≡ false
+    not-among l = sym (standing .keys-tell place h) ∙ le-ltb (getD keys place 0) notPlanned l
+
+    pub planned-among : getD keys place 0 < notPlanned → among planned place ≡ true
+    planned-among l = sym (standing .keys-tell place h) ∙ lt-ltb (getD keys place 0) notPlanned l
+
+    -- a place that the keys call not planned
+    pub apart-new : notPlanned ≤ getD keys place 0 → Apart place planned keys
+    apart-new l = record {
+      keys-length = standing .keys-length;
+      below = standing .below;
+      once = standing .once;
+      sorted = standing .sorted;
+      place-below = h;
+      new = not-among l;
+      others = λ p m d. standing .keys-tell p m;
     }
 
-    pub removed-gone : (place : ℕ) → at ≡ indexOf place (take count places) → NoneOf (take (count - 1) places') place
-    removed-gone place e = rw places-left (rw e (taken-out-is-gone place (standing .once)))
+    -- the first index that holds a planned place is inside
+    pub inside : getD keys place 0 < notPlanned → indexOf place planned < count
+    inside l =
+        omega (
+          arith,
+          ltb-true (indexOf place planned) (length planned)
+              (sym (some-where-first-inside (eqb place) planned) ∙ planned-among l),
+          length-planned,
+        )
 
--- taken out and put in again
-pub moved-stands : (count at place key : ℕ) (places keys places' keys' places'' keys'' : List ℕ)
-    → Standing count places keys → at < count → place < mostJobs → at ≡ indexOf place (take count places)
-    → Removed count at places keys places' keys' → Inserted (count - 1) place key places' keys' places'' keys''
-    → Standing count places'' keys''
-moved-stands count at place key places keys places' keys' places'' keys'' standing l h e removed inserted =
-    let as-many : count - 1 + 1 ≡ count = omega arith in
-    rw as-many at
-    (inserted-stands (count - 1) places' keys' (removed-stands count places keys standing at places' keys' removed) place h
-    (removed-gone count places keys standing at places' keys' removed place e) key places'' keys'' inserted)
+    -- a place that is taken out
+    pub apart-taken-out : Apart place (withoutAt (indexOf place planned) planned) keys
+    apart-taken-out = record {
+      keys-length = standing .keys-length;
+      below = below-without mostJobs (indexOf place planned) planned (standing .below);
+      once = pairs-without (indexOf place planned) (standing .once);
+      sorted = pairs-without (indexOf place planned) (standing .sorted);
+      place-below = h;
+      new = taken-out-is-gone place (standing .once);
+      others = λ p m d. standing .keys-tell p m ∙ sym (others-stay place planned p d);
+    }
+
+    -- an insertion behind all entries: what it asks, and that it leaves a plan
+    module _ (new : notPlanned ≤ getD keys place 0) where
+      room : count < mostJobs
+      room = omega (arith, room-for-one-more place planned keys (apart-new new), length-planned)
+
+      pub room-behind : (count < length places) × AllBelow mostJobs planned × (place < mostJobs)
+      room-behind = (omega (arith, room, standing .places-length), standing .below, h)
+
+      pub inserted-stands : (key : ℕ) (places' keys' : List ℕ) → key < notPlanned
+          → Inserted count place key places keys places' keys' → Standing (count + 1) places' keys'
+      inserted-stands key places' keys' l inserted =
+          put-in-stands place planned keys (apart-new new) (count + 1) key places' keys' (inserted .fronted .front)
+          (inserted .key-stored) (inserted .fronted .whole ∙ standing .places-length) (omega (arith, room)) l
+
+  -- an insertion over one of the entries: what it asks
+  pub room-inside : (n place : ℕ) → n < count → place < mostJobs
+      → (n < length places) × AllBelow mostJobs (take n places) × (place < mostJobs)
+  room-inside n place l h = (
+    omega (arith, standing .few, standing .places-length),
+    λ i m.
+        let short : i < n = omega (arith, length-take-le n places (omega (arith, standing .few, standing .places-length))) in
+        omega (
+          arith,
+          getD-take n places i 0 short,
+          getD-take count places i 0 (omega arith),
+          standing .below i (omega (arith, length-planned)),
+        ),
+    h,
+  )

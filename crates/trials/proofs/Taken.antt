@@ -1,24 +1,24 @@
--- A turn, in its four ways: what the code tests of places and columns is what the rules test of the plan, the ratio and the
--- trial, and a dropped trial leaves the plan as it stood. Assumes nothing.
+-- A turn, in its four ways: what the code tests of keys and columns is what the rules test of the plan, the ratio and
+-- the trial, and a dropped trial leaves the plan as it stood. Assumes nothing.
 use mathlib.Core.Bool.{Bool, true, false, cond}
 use mathlib.Core.List.{List}
 use mathlib.Core.Path.{_≡_, refl, sym, ap, _∙_}
-use Prim.Native.Nat.{ℕ}
+use Prim.Native.Nat.{ℕ, _≤_, _<_}
 use native.Mathlib.Omega.{arith}
-use borrow.Author.Tests.{eq-eqb, ne-eqb}
+use borrow.Author.Tests.{eq-eqb, le-ltb, lt-ltb, ne-eqb}
 use lib.Dec.{ltb}
-use lib.ListN.{getD, take}
+use lib.ListN.{drop, getD, length, length-append, length-drop, take}
+use lib.Seq.{length-take-le, take-at}
 use Rattle.columns.proofs.Entries.{jobs-of-entries}
 use Rattle.columns.specs.declared.Terms.{Terms}
-use Rattle.entries.proofs.Found.{in-plan-where-inside}
-use Rattle.entries.specs.Places.{indexOf}
+use Rattle.entries.proofs.Found.{in-plan-among}
+use Rattle.laws.proofs.Overwritten.{overwritten}
 use Rattle.rules.specs.Plan.{Entry, Outcome, Turn, endsLate, fateBudget, fatePlanned, fateRatioZero, fateTime, inPlan}
 use Rattle.rules.specs.Plan.{judge, ratioZero, tooDear, trial, turn, turnOf, waitsLeft}
-use Rattle.rules.specs.TableText.{Records, noJob}
+use Rattle.rules.specs.TableText.{Records, mostJobs, noJob}
 use Rattle.rules.specs.declared.Job.{Job}
 use Rattle.trials.proofs.Judged.{fateBy}
-use Rattle.trials.proofs.Once.{as-many-keys, length-planned}
-use Rattle.trials.specs.Promises.{Judged, Standing, Tried, TurnOf, TurnTaken, planIn}
+use Rattle.trials.specs.Promises.{Judged, Standing, Tried, TurnOf, TurnTaken, notPlanned, planIn}
 use Rattle.trials.specs.declared.Turned.{Turned}
 
 -- what a trial leaves, by the tests
@@ -38,6 +38,21 @@ accepted-by : (late dear : Bool) (fate : ℕ) (p q : List Entry) → fate ≡ fa
 accepted-by true dear fate p q e f = absurd (omega arith)
 accepted-by false true fate p q e f = absurd (omega arith)
 accepted-by false false fate p q e f = refl
+
+-- the first of a list, put over those of a spare one, and back over those of a third
+module _ (n : ℕ) (xs spare ys : List ℕ) where
+  abbrev putBack : List ℕ
+  putBack = overwritten (overwritten xs spare n) ys n
+
+  put-back-front : n ≤ length xs → take n putBack ≡ take n xs
+  put-back-front h =
+      let long = length-take-le n xs h in
+      rw (take-at (take n xs) (drop n spare) n long) (take-at (take n xs) (drop n ys) n long)
+
+  put-back-whole : n ≤ length xs → n ≤ length ys → length putBack ≡ length ys
+  put-back-whole h l =
+      let long = length-take-le n xs h in
+      rw (take-at (take n xs) (drop n spare) n long) (simp (length-append, length-drop) (omega arith))
 
 -- the rules, by what they test
 module _ (t : Records) (i : Turn) (p : List Entry) where
@@ -65,7 +80,7 @@ module _ (t : Records) (i : Turn) (p : List Entry) where
         accepted f = accepted-by (endsLate t q) (tooDear t q) fate p q told f ∙ judged
 
 module _ (count place over : ℕ) (waits critical cycles termination places keys : List ℕ) (terms : Terms)
-    (standing : Standing count places keys) where
+    (standing : Standing count places keys) (place-below : place < mostJobs) where
   -- the table is the columns'
   abbrev Table : Records → Type 0
   Table t = TurnOf t count place over waits critical cycles termination places terms
@@ -80,35 +95,53 @@ module _ (count place over : ℕ) (waits critical cycles termination places keys
   Taken places' keys' r =
       TurnTaken count place over waits critical cycles termination places keys places' keys' terms r
 
-  in-plan-told : (b : Bool) → b ≡ ltb (indexOf place (take count places)) count → (t : Records) → Table t
-      → inPlan (turnOf t (jobIn t) .job) (planned t) ≡ b
+  -- the job's key tells whether it is planned
+  in-plan-told : (t : Records) → Table t
+      → inPlan (turnOf t (jobIn t) .job) (planned t) ≡ ltb (getD keys place 0) notPlanned
   unfolding turnOf
-  in-plan-told b e t of =
-      in-plan-where-inside (t .jobs) (of .valid .jobs-rise) place (of .place-of-job) (take count places) (take count keys)
-      (of .of-jobs) (as-many-keys count places keys standing)
-      ∙ ap (ltb (indexOf place (take count places))) (length-planned count places keys standing)
-      ∙ sym e
+  in-plan-told t of =
+      in-plan-among (t .jobs) (of .valid .jobs-rise) keys place (of .place-of-job) (take count places) (of .of-jobs)
+      ∙ sym (standing .keys-tell place place-below)
 
   over-told : (t : Records) → Table t → turnOf t (jobIn t) .ratio .over ≡ over
   unfolding turnOf
   over-told t of = sym (of .over-of)
 
   -- the plan stays, with this fate for the job
-  stays : (fate : ℕ)
-      → ((t : Records) → Table t → record { plan = planned t; fate = fate } ≡ turn t (turnOf t (jobIn t)) (planned t))
-      → Taken places keys (record { count = count; fate = fate })
-  stays fate outcome = record { standing = standing; outcome = outcome; of-jobs = λ t of. of .of-jobs }
+  module _ (places' : List ℕ) (whole : length places' ≡ mostJobs) (front : take count places' ≡ take count places) where
+    plan-stands : Standing count places' keys
+    plan-stands = record {
+      places-length = whole;
+      keys-length = standing .keys-length;
+      few = standing .few;
+      below = rw front (standing .below);
+      once = rw front (standing .once);
+      sorted = rw front (standing .sorted);
+      keys-tell = λ p h. rw front (standing .keys-tell p h);
+    }
 
-  pub job-passed-over : true ≡ ltb (indexOf place (take count places)) count
-      → Taken places keys (record { count = count; fate = fatePlanned })
-  job-passed-over e =
-      stays fatePlanned (λ t of. passed-over t (turnOf t (jobIn t)) (planned t) (in-plan-told true e t of))
+    stays : (fate : ℕ)
+        → ((t : Records) → Table t → record { plan = planned t; fate = fate } ≡ turn t (turnOf t (jobIn t)) (planned t))
+        → Taken places' keys (record { count = count; fate = fate })
+    stays fate outcome = record {
+      standing = plan-stands;
+      outcome = λ t of. rw front (outcome t of);
+      of-jobs = λ t of. rw front (of .of-jobs);
+    }
 
-  module _ (new : false ≡ ltb (indexOf place (take count places)) count) where
+  pub job-passed-over : getD keys place 0 < notPlanned → Taken places keys (record { count = count; fate = fatePlanned })
+  job-passed-over l =
+      stays places (standing .places-length) refl fatePlanned (λ t of.
+      passed-over t (turnOf t (jobIn t)) (planned t) (in-plan-told t of ∙ lt-ltb (getD keys place 0) notPlanned l))
+
+  module _ (new : notPlanned ≤ getD keys place 0) where
+    new-told : (t : Records) → Table t → inPlan (turnOf t (jobIn t) .job) (planned t) ≡ false
+    new-told t of = in-plan-told t of ∙ le-ltb (getD keys place 0) notPlanned new
+
     pub ratio-is-zero : over ≡ 0 → Taken places keys (record { count = count; fate = fateRatioZero })
     ratio-is-zero z =
-        stays fateRatioZero (λ t of.
-        gives-nothing t (turnOf t (jobIn t)) (planned t) (in-plan-told false new t of) (over-told t of ∙ z))
+        stays places (standing .places-length) refl fateRatioZero (λ t of.
+        gives-nothing t (turnOf t (jobIn t)) (planned t) (new-told t of) (over-told t of ∙ z))
 
     module _ (some : over ≡ 0 → ⊥) (places' keys' : List ℕ) (entries : ℕ)
         (tried : Tried count place waits critical places keys places' keys' entries) where
@@ -128,13 +161,19 @@ module _ (count place over : ℕ) (waits critical cycles termination places keys
         fate-told : (t : Records) → Table t → fate ≡ fateBy (endsLate t (triedPlan t)) (tooDear t (triedPlan t))
         fate-told t of =
             judged-so .fate t (of .terms-of) (of .cycles-of) (of .termination-of) (triedPlan t)
-            (jobs-of-entries (t .jobs) (take entries places') (take entries keys')
-            (as-many-keys entries places' keys' (tried .standing)))
+            (jobs-of-entries (t .jobs) keys' (take entries places'))
 
-        pub trial-is-dropped : (fate ≡ fatePlanned → ⊥) → Taken places keys (record { count = count; fate = fate })
-        trial-is-dropped n =
-            stays fate (λ t of.
-            dropped t (turnOf t (jobIn t)) (planned t) (in-plan-told false new t of) (gives-told t of) (triedPlan t)
+        -- a dropped trial's places are overwritten with those that `spare` kept
+        pub trial-is-dropped : (spare spare' places'' : List ℕ) → spare' ≡ overwritten places spare count
+            → places'' ≡ overwritten spare' places' count → (fate ≡ fatePlanned → ⊥)
+            → Taken places'' keys (record { count = count; fate = fate })
+        trial-is-dropped spare spare' places'' kept back n =
+            let long : count ≤ length places = omega (arith, standing .few, standing .places-length) in
+            let whole = tried .standing .places-length in
+            let room : count ≤ length places' = omega (arith, standing .few, whole) in
+            stays places'' (rw (back, kept) (put-back-whole count places spare places' long room ∙ whole))
+            (rw (back, kept) (put-back-front count places spare places' long)) fate (λ t of.
+            dropped t (turnOf t (jobIn t)) (planned t) (new-told t of) (gives-told t of) (triedPlan t)
             (trial-told t of) fate (fate-told t of) n)
 
         pub trial-is-accepted : fate ≡ fatePlanned
@@ -142,7 +181,7 @@ module _ (count place over : ℕ) (waits critical cycles termination places keys
         trial-is-accepted f = record {
           standing = tried .standing;
           outcome = λ t of.
-              accepted t (turnOf t (jobIn t)) (planned t) (in-plan-told false new t of) (gives-told t of) (triedPlan t)
+              accepted t (turnOf t (jobIn t)) (planned t) (new-told t of) (gives-told t of) (triedPlan t)
               (trial-told t of) fate (fate-told t of) f;
           of-jobs = λ t of.
               tried .of-jobs (t .jobs) (waitsLeft t) (of .waits-left) (of .of-jobs) (of .place-of-job);

@@ -1,6 +1,5 @@
 -- `plans::conclude` meets its contract: the total of the plan, the speed chosen for it, and 1 for the planned. In the ranges
 -- no sum or product wraps. Assumes nothing.
-use mathlib.Core.List.{List}
 use mathlib.Core.Path.{_≡_, sym}
 use Prim.Native.Nat.{ℕ, _*_, _≤_}
 use native.Mathlib.Nat.{mul-le-mul}
@@ -9,7 +8,6 @@ use lib.ListN.{length, take}
 use lib.Seq.{length-take-le}
 use Rattle.entries.specs.Promises.{Summable}
 use Rattle.plans.proofs.Concluding.{steps-8-and-9}
-use Rattle.plans.specs.Promises.{Placed}
 use Rattle.rules.specs.TableText.{mostCycles, mostJobs}
 use borrow.Author.Needs.{needs}
 use Rattle.plans.proofs.conclude.Statement.{statement}

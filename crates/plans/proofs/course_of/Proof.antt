@@ -48,6 +48,7 @@ take-turns-requires c κs =
       few-turns = omega (arith, ordered .turn-order .ensures .few, timeable .few-jobs);
       turns-there = omega (arith, ordered .turn-order .ensures .few, timeable .few-jobs, all-places ordered);
       below = below-most _ _ (take (turns .count) (turns .order)) (timeable .few-jobs) (ordered .turn-order .ensures .below);
+      critical-small = start .pre .critical-small;
       cycles-small = timeable .cycles-small;
       termination-small = timeable .termination-small;
       clock-small = timeable .clock-small;

@@ -1,24 +1,15 @@
 -- `plans::put_fates` meets its contract: the front part is put, the rest cleared. Assumes nothing.
-use mathlib.Core.Path.{refl, sym}
+use mathlib.Core.Path.{refl, _∙_}
+use native.Mathlib.Omega.{arith}
 use lib.ListN.{length}
-use lib.Seq.{length-take-le}
+use Rattle.laws.proofs.Overwritten.{overwritten-by-all}
 use Rattle.plans.proofs.Padding.{put-then-cleared}
 use borrow.Author.Needs.{needs}
 use Rattle.plans.proofs.put_fates.Statement.{statement}
 use Rattle.plans.proofs.put_fates.Tie as tie
 
-slice-relend-prefix-copy-fates : tie.Need-slice-relend-prefix-copy-fates
-slice-relend-prefix-copy-fates c = search needs
-
-slice-aggregate-copy-fates : tie.Need-slice-aggregate-copy-fates
-slice-aggregate-copy-fates c =
-    let start = c .before .before .before in
-    sym (length-take-le (length (start .args .fates .now)) (start .args .out .now) (start .pre))
-
-copy-fates-requires : tie.Need-copy-fates-requires
-copy-fates-requires c κs =
-    let start = c .before .before .before in
-    length-take-le (length (start .args .fates .now)) (start .args .out .now) (start .pre)
+copy-front-requires : tie.Need-copy-front-requires
+copy-front-requires c κs = search needs
 
 mul-clear : tie.Need-mul-clear
 mul-clear c = search needs
@@ -40,18 +31,18 @@ same-length c = search needs
 
 returns : tie.Need-returns
 returns c =
-    let start = c .before .before .before .before .before .before .before .before .before .before in
-    let put = c .before .before .before .before .before .before .copy-fates in
+    let put = c .before .before .before .before .before .before in
+    let args = put .before .before .before .before .args in
     let cleared = c .before .before .clear in
-    put-then-cleared (start .args .out .now) (put .last .0) (start .args .fates .now) (cleared .last .0) (length (start .args .fates .now)) (refl) (put .ensures) (cleared .ensures)
+    let fates = args .fates .now in
+    put-then-cleared (args .out .now) (put .copy-front .last .0) fates (cleared .last .0) (length fates) refl
+    (put .copy-front .ensures ∙ overwritten-by-all fates (args .out .now) (length fates) (omega arith)) (cleared .ensures)
 
 pub put-fates-spec : {M : Type 1} → statement M
 put-fates-spec =
     tie.close
     (tie.spec
-    slice-relend-prefix-copy-fates
-    slice-aggregate-copy-fates
-    copy-fates-requires
+    copy-front-requires
     mul-clear
     sub-clear
     part-clear-start

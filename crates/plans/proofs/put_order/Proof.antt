@@ -1,7 +1,7 @@
 -- `plans::put_order` meets its contract: the front part is put, the rest cleared. Assumes nothing.
-use mathlib.Core.List.{map}
-use mathlib.Core.Path.{sym}
-use lib.ListN.{getD, length, length-map}
+use mathlib.Core.List.{_++_, map}
+use mathlib.Core.Path.{sym, ap}
+use lib.ListN.{drop, getD, length, length-map}
 use lib.Seq.{length-take-le}
 use Rattle.plans.proofs.Padding.{put-then-cleared}
 use borrow.Author.Needs.{needs}
@@ -45,7 +45,11 @@ returns c =
     let put = c .before .before .before .before .before .before .put-numbers in
     let cleared = c .before .before .clear in
     let numbers = map (λ p. getD (start .args .number .now) p 0) (start .args .places .now) in
-    put-then-cleared (start .args .order .now) (put .last .0) numbers (cleared .last .0) (length (start .args .places .now)) (length-map (start .args .places .now) (λ p. getD (start .args .number .now) p 0)) (put .ensures) (cleared .ensures)
+    let order = start .args .order .now in
+    let count = length (start .args .places .now) in
+    put-then-cleared order (put .last .0 ++ drop count order) numbers (cleared .last .0) count
+    (length-map (start .args .places .now) (λ p. getD (start .args .number .now) p 0))
+    (ap (λ front. front ++ drop count order) (put .ensures)) (cleared .ensures)
 
 pub put-order-spec : {M : Type 1} → statement M
 put-order-spec =

@@ -4,7 +4,7 @@ use mathlib.Core.List.{List}
 use mathlib.Core.Path.{_≡_, refl, sym, _∙_}
 use Prim.Native.Nat.{ℕ, _-_, _≤_, _<_}
 use native.Mathlib.Omega.{arith}
-use lib.ListN.{getD, length, length-set, replicate}
+use lib.ListN.{getD, getD-replicate, length, length-set, replicate}
 use lib.Seq.{getD-take, length-take-le}
 use Rattle.laws.proofs.Pairs.{no-pair}
 use Rattle.plans.proofs.Taking.{OnCourse, at-end, at-start, one-more-taken}
@@ -13,37 +13,40 @@ use Rattle.plans.specs.Promises.{CourseBy, TurnsOf}
 use Rattle.plans.specs.declared.Course.{Course as Ran}
 use Rattle.rules.specs.Lists.{Rising}
 use Rattle.rules.specs.TableText.{Records, mostJobs}
-use Rattle.trials.specs.Promises.{Standing}
+use Rattle.trials.specs.Promises.{Standing, notPlanned}
 use borrow.Author.Needs.{needs}
 use Rattle.plans.proofs.take_turns.Statement.{statement}
 use Rattle.plans.proofs.take_turns.Tie as tie
 
 -- before the first turn nothing is planned
-nothing-standing : Standing 0 (replicate mostJobs 0) (replicate mostJobs 0)
+nothing-standing : Standing 0 (replicate mostJobs 0) (replicate mostJobs notPlanned)
 nothing-standing = record {
   places-length = refl;
   keys-length = refl;
   few = omega arith;
   below = λ i h. absurd (omega arith);
   once = no-pair;
+  sorted = no-pair;
+  keys-tell = λ p h. rw (getD-replicate mostJobs p notPlanned 0 h);
 }
 
 -- after the last all are taken
 all-taken : (t : Records) (order : List ℕ) (n i : ℕ) (keys : List ℕ) (r : Ran) → i ≡ n
-    → Standing (r .count) (r .places) keys → Rising (λ j. j .number) (t .jobs)
+    → Rising (λ j. j .number) (t .jobs)
     → OnCourse t (courseBy t order i) (r .count) (r .places) keys (r .fates) → CourseBy t (courseBy t order n) r
-all-taken t order n i keys r e standing rising on = rw (sym e) (at-end t (courseBy t order i) r keys standing rising on)
+all-taken t order n i keys r e rising on = rw (sym e) (at-end t (courseBy t order i) r keys rising on)
 
 abbrev Inv-loop : tie.InvT-loop
-Inv-loop order turn-count over waits critical cycles termination terms places₀ keys₀ count₀ fates₀ i₀ places keys count fates i =
+Inv-loop order turn-count over waits critical cycles termination terms places₀ keys₀ spare₀ count₀ fates₀ i₀ places keys spare count fates i =
     (i ≤ turn-count)
     × Standing count places keys
+    × (length spare ≡ mostJobs)
     × (length fates ≡ mostJobs)
     × ((t : Records) → TurnsOf t order turn-count over waits critical cycles termination fates₀ terms
     → OnCourse t (courseBy t order i) count places keys fates)
 
 abbrev μ-loop : tie.MeasureT-loop
-μ-loop order turn-count over waits critical cycles termination terms places₀ keys₀ count₀ fates₀ i₀ places keys count fates i =
+μ-loop order turn-count over waits critical cycles termination terms places₀ keys₀ spare₀ count₀ fates₀ i₀ places keys spare count fates i =
     turn-count - i
 
 all-places : (c : tie.Start Inv-loop μ-loop) → length (c .args .so-far) ≡ mostJobs
@@ -68,6 +71,7 @@ loop-holds c =
     let args = c .args in (
       omega arith,
       nothing-standing,
+      refl,
       all-places c,
       λ t of.
           at-start t (args .order .now) (args .turn-count) (args .over .now) (args .waits .now) (args .critical .now)
@@ -80,18 +84,24 @@ mul-place c = omega (arith, c .before .before .pre .few-turns)
 element-copy-out-place : tie.Need-element-copy-out-place Inv-loop μ-loop
 element-copy-out-place c = omega (arith, c .before .before .pre .few-turns)
 
+slice-aggregate-turn : tie.Need-slice-aggregate-turn Inv-loop μ-loop
+slice-aggregate-turn c = omega (arith, c .before .before .before .before .before .loop .inv .2)
+
 mul-turn : tie.Need-mul-turn Inv-loop μ-loop
-mul-turn c = omega (arith, place-below (c .before .before .before))
+mul-turn c = omega (arith, place-below (c .before .before .before .before))
 
 element-copy-out-turn : tie.Need-element-copy-out-turn Inv-loop μ-loop
-element-copy-out-turn c = place-below (c .before .before .before)
+element-copy-out-turn c = place-below (c .before .before .before .before)
 
 turn-requires : tie.Need-turn-requires Inv-loop μ-loop
 turn-requires c κs =
-    let pre = c .before .before .before .before .before .before .pre in
+    let inside = c .before .before .before .before .before in
+    let pre = inside .before .before .pre in
     record {
-      standing = c .before .before .before .before .before .loop .inv .1;
-      place-below = place-below (c .before .before .before .before);
+      standing = inside .before .loop .inv .1;
+      spare-length = inside .before .loop .inv .2;
+      place-below = place-below inside;
+      critical-small = pre .critical-small;
       cycles-small = pre .cycles-small;
       termination-small = pre .termination-small;
       clock-small = pre .clock-small;
@@ -100,12 +110,12 @@ turn-requires c κs =
     }
 
 mul-fates : tie.Need-mul-fates Inv-loop μ-loop
-mul-fates c = omega (arith, place-below (c .before .before .before .before .before))
+mul-fates c = omega (arith, place-below (c .before .before .before .before .before .before .before))
 
 array-write-fates : tie.Need-array-write-fates Inv-loop μ-loop
 array-write-fates c =
-    let loop = c .before .before .before .before .before .before .loop in
-    omega (arith, loop .inv .2, place-below (c .before .before .before .before .before))
+    let inside = c .before .before .before .before .before .before .before in
+    omega (arith, inside .before .loop .inv .3, place-below inside)
 
 add-i : tie.Need-add-i Inv-loop μ-loop
 add-i c = search needs
@@ -115,20 +125,21 @@ loop-less c = search needs
 
 loop-again : tie.Need-loop-again Inv-loop μ-loop
 loop-again c =
-    let inside = c .before .before .before .before .before in
+    let inside = c .before .before .before .before .before .before .before in
     let start = inside .before .before in
     let loop = inside .before .loop in
     let args = start .args in
     let place = getD (args .order .now) (loop .i) 0 in
-    let turned = c .turn in (
+    let turned = c .before .turn in (
       omega (arith, inside .loop-test .taken),
       turned .ensures .standing,
-      length-set (loop .fates) place (turned .result .fate) ∙ loop .inv .2,
+      search needs,
+      length-set (loop .fates) place (turned .result .fate) ∙ loop .inv .3,
       λ t of.
           one-more-taken t (args .order .now) (args .turn-count) (args .over .now) (args .waits .now) (args .critical .now)
           (args .cycles .now) (args .termination .now) (args .so-far) (args .terms) of (loop .i) (start .pre .turns-there)
-          (inside .loop-test .taken) (loop .count) (loop .places) (loop .keys) (loop .fates) (loop .inv .3 t of)
-          (turned .last .0) (turned .last .1 .0) (turned .result) (omega (arith, loop .inv .2, place-below inside))
+          (inside .loop-test .taken) (loop .count) (loop .places) (loop .keys) (loop .fates) (loop .inv .4 t of)
+          (turned .last .0) (turned .last .1 .0) (turned .result) (omega (arith, loop .inv .3, place-below inside))
           (turned .ensures),
     )
 
@@ -140,8 +151,8 @@ returns c =
     record {
       placed = record { few = loop .inv .1 .few; below = loop .inv .1 .below };
       course = λ t of.
-          all-taken t (args .order .now) (args .turn-count) (loop .i) (loop .keys) _ (omega arith) (loop .inv .1)
-          (of .valid .jobs-rise) (loop .inv .3 t of);
+          all-taken t (args .order .now) (args .turn-count) (loop .i) (loop .keys) _ (omega arith)
+          (of .valid .jobs-rise) (loop .inv .4 t of);
     }
 
 pub take-turns-spec : {M : Type 1} → statement M
@@ -153,6 +164,7 @@ take-turns-spec =
     loop-holds
     mul-place
     element-copy-out-place
+    slice-aggregate-turn
     mul-turn
     element-copy-out-turn
     turn-requires

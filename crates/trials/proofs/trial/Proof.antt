@@ -1,23 +1,21 @@
--- `trials::trial` meets its contract. The job is inserted at its critical time; then, with each step, what the members that
--- are left make of the plan so far is what all make of the plan with which the walk began. The measure is what is left of
--- the steps. Assumes nothing.
+-- `trials::trial` meets its contract. The job is inserted at its critical time; then, with each step, what the members
+-- that are left make of the plan so far is what all make of the plan with which the walk began. The measure is what is
+-- left of the steps. Assumes nothing.
 use Prim.Native.Nat.{_+_, _-_, _≤_}
 use native.Mathlib.Omega.{arith}
 use borrow.Author.Needs.{needs}
 use Rattle.rules.specs.TableText.{mostHolds}
-use Rattle.trials.proofs.Once.{none-planned, room-for-one-more}
-use Rattle.trials.proofs.Walked.{Walked, begun-stands, over-after-all, over-at-nobody, trial-made, walk-begins}
-use Rattle.trials.proofs.Walked.{walk-goes-on}
+use Rattle.trials.proofs.Once.{room-behind}
+use Rattle.trials.proofs.Walked.{Walked, over-after-all, over-at-nobody, trial-made, walk-begun, walk-goes-on}
 use Rattle.trials.proofs.trial.Statement.{statement}
 use Rattle.trials.proofs.trial.Tie as tie
 
 abbrev Inv-loop : tie.InvT-loop
-Inv-loop places₀ keys₀ count place waits critical limit₀ entries₀ at₀ i₀ places keys limit entries at i =
-    (i ≤ mostHolds)
-    × Walked waits critical places₀ keys₀ limit₀ entries₀ at₀ places keys limit entries at (mostHolds - i)
+Inv-loop places₀ keys₀ count place waits critical limit so-far₀ at₀ i₀ places keys so-far at i =
+    (i ≤ mostHolds) × Walked waits critical places₀ keys₀ so-far₀ at₀ places keys so-far at (mostHolds - i)
 
 abbrev μ-loop : tie.MeasureT-loop
-μ-loop places₀ keys₀ count place waits critical limit₀ entries₀ at₀ i₀ places keys limit entries at i = mostHolds - i
+μ-loop places₀ keys₀ count place waits critical limit so-far₀ at₀ i₀ places keys so-far at i = mostHolds - i
 
 mul-limit : tie.Need-mul-limit Inv-loop μ-loop
 mul-limit c = search needs
@@ -27,17 +25,13 @@ element-copy-out-limit c = search needs
 
 insert-requires : tie.Need-insert-requires Inv-loop μ-loop
 insert-requires c κs =
-    let start = c .before .before .before .before .before in
+    let start = c .before .before .before .before in
     let args = start .args in
-    let standing = start .pre .standing in
-    let new = none-planned (args .count) (args .places .now) (args .keys .now) standing (args .place)
-    (omega (arith, start .pre .not-planned)) in
-    let free = room-for-one-more (args .count) (args .places .now) (args .keys .now) standing (args .place) (start .pre .place-below)
-    new in
-    (omega (arith, standing .places-length), omega (arith, standing .keys-length))
+    room-behind (args .count) (args .places .now) (args .keys .now) (start .pre .standing) (args .place)
+    (start .pre .place-below) (start .pre .not-planned)
 
-add-entries : tie.Need-add-entries Inv-loop μ-loop
-add-entries c = search needs
+add-at : tie.Need-add-at Inv-loop μ-loop
+add-at c = search needs
 
 mul-at : tie.Need-mul-at Inv-loop μ-loop
 mul-at c = search needs
@@ -47,29 +41,26 @@ element-copy-out-at c = search needs
 
 loop-holds : tie.Need-loop-holds Inv-loop μ-loop
 loop-holds c =
-    let inserted = c .before .before .before .before .before in
-    let start = inserted .before .before .before .before .before .before in
-    let args = start .args in
-    let stands = begun-stands (args .count) (args .place) (args .waits .now) (args .critical .now) (args .places .now)
-    (args .keys .now) _ _ (start .pre) (inserted .insert .ensures) in
-    (omega arith, walk-begins _ _ _ _ _ _ _ stands)
+    let inserted = c .before .before .before in
+    let start = inserted .before .before .before .before .before in
+    let args = start .args in (
+      omega arith,
+      walk-begun (args .count) (args .place) (args .waits .now) (args .critical .now) (args .places .now) (args .keys .now)
+          (start .pre) _ _ (inserted .insert .ensures),
+    )
 
 same-length : tie.Need-same-length Inv-loop μ-loop
 same-length c = search needs
 
-same-length-2 : tie.Need-same-length-2 Inv-loop μ-loop
-same-length-2 c = search needs
-
 returns : tie.Need-returns Inv-loop μ-loop
 returns c =
     let loop = c .before .before .loop in
-    let inserted = c .before .before .before .before .before .before .before .before in
-    let start = inserted .before .before .before .before .before .before in
+    let inserted = c .before .before .before .before .before .before in
+    let start = inserted .before .before .before .before .before in
     let args = start .args in
     trial-made (args .count) (args .place) (args .waits .now) (args .critical .now) (args .places .now) (args .keys .now)
-    _ _ (start .pre) (inserted .insert .ensures) (loop .places) (loop .keys) (loop .limit) (loop .entries) (loop .at)
-    (mostHolds - loop .i) (loop .inv .1)
-    (over-at-nobody (args .waits .now) (mostHolds - loop .i) (loop .at) (c .if1 .taken))
+    (start .pre) _ _ (inserted .insert .ensures) (loop .places) (loop .keys) (loop .so-far) (loop .at) (mostHolds - loop .i)
+    (loop .inv .1) (over-at-nobody (args .waits .now) (mostHolds - loop .i) (loop .at) (c .if1 .taken))
 
 mul-member : tie.Need-mul-member Inv-loop μ-loop
 mul-member c = search needs
@@ -94,29 +85,25 @@ loop-less c = search needs
 
 loop-again : tie.Need-loop-again Inv-loop μ-loop
 loop-again c =
-    let loop = c .before .before .before .before .before .before .before .before .before .before .before .loop in
-    let stepped = c .before .before .before .before .before .member in (
+    let stepped = c .before .before .before .member in
+    let loop = c .before .before .before .before .before .before .before .before .before .loop in (
       omega arith,
-      walk-goes-on _ _ _ _ _ _ _ (loop .places) (loop .keys) (loop .limit) (loop .entries) (loop .at) (mostHolds - loop .i)
-          (loop .inv .1) _ _ (stepped .result) (mostHolds - (loop .i + 1)) (omega arith) (omega arith) (stepped .ensures),
+      walk-goes-on _ _ _ _ _ _ (loop .places) (loop .keys) (loop .so-far) (loop .at) (mostHolds - loop .i) (loop .inv .1)
+          _ _ (stepped .result) (mostHolds - (loop .i + 1)) (omega arith) (omega arith) (stepped .ensures),
     )
 
-same-length-3 : tie.Need-same-length-3 Inv-loop μ-loop
-same-length-3 c = search needs
-
-same-length-4 : tie.Need-same-length-4 Inv-loop μ-loop
-same-length-4 c = search needs
+same-length-2 : tie.Need-same-length-2 Inv-loop μ-loop
+same-length-2 c = search needs
 
 returns-2 : tie.Need-returns-2 Inv-loop μ-loop
 returns-2 c =
     let loop = c .before .loop in
-    let inserted = c .before .before .before .before .before .before .before in
-    let start = inserted .before .before .before .before .before .before in
+    let inserted = c .before .before .before .before .before in
+    let start = inserted .before .before .before .before .before in
     let args = start .args in
     trial-made (args .count) (args .place) (args .waits .now) (args .critical .now) (args .places .now) (args .keys .now)
-    _ _ (start .pre) (inserted .insert .ensures) (loop .places) (loop .keys) (loop .limit) (loop .entries) (loop .at)
-    (mostHolds - loop .i) (loop .inv .1)
-    (over-after-all (args .waits .now) (mostHolds - loop .i) (loop .at) (omega arith))
+    (start .pre) _ _ (inserted .insert .ensures) (loop .places) (loop .keys) (loop .so-far) (loop .at) (mostHolds - loop .i)
+    (loop .inv .1) (over-after-all (args .waits .now) (mostHolds - loop .i) (loop .at) (omega arith))
 
 pub trial-spec : {M : Type 1} → statement M
 trial-spec =
@@ -127,12 +114,11 @@ trial-spec =
     mul-limit
     element-copy-out-limit
     insert-requires
-    add-entries
+    add-at
     mul-at
     element-copy-out-at
     loop-holds
     same-length
-    same-length-2
     returns
     mul-member
     element-copy-out-member
@@ -142,6 +128,5 @@ trial-spec =
     add-i
     loop-less
     loop-again
-    same-length-3
-    same-length-4
+    same-length-2
     returns-2)
