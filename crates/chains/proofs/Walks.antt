@@ -1,7 +1,7 @@
 -- A walk along the column of places, one place at a time. The jobs at the places that it meets are those that the rules
 -- follow, since each entry of the column is the place of the job waited for, or nobody's. Assumes nothing.
 use mathlib.Core.List.{List, [], _∷_}
-use mathlib.Core.Logic.{inl, inr}
+use mathlib.Core.Logic.{inl, inr, ⊎-elim}
 use mathlib.Core.Option.{Option, none, some}
 use mathlib.Core.Path.{_≡_, refl, ap, _∙_}
 use Prim.Native.Nat.{ℕ, zero, suc, _≤_, _<_}
@@ -14,6 +14,10 @@ use Rattle.columns.specs.Columns.{AllBelow, jobsAt}
 use Rattle.rules.specs.Plan.{awaited, follow}
 use Rattle.rules.specs.TableText.{mostHolds, mostJobs, noJob}
 use Rattle.rules.specs.declared.Job.{Job}
+
+-- a place below 64 is a job's
+pub is-place : (js : List Job) (p : ℕ) → PlaceOrNobody js p → p < mostJobs → p < length js
+is-place js p w h = ⊎-elim (λ (l : p < length js). l) (λ (e : p ≡ mostJobs). absurd (omega arith)) w
 
 module _ (waits : List ℕ) where
   pub no-step-left : (at : ℕ) → placesFrom waits 0 at ≡ []

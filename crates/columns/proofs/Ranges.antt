@@ -13,7 +13,7 @@ use Rattle.rules.specs.TableText.{Record, inRange, mostCycles, noJob}
 use Rattle.rules.specs.declared.Job.{Job}
 
 -- a column is at most what the field of each job is
-pub column-at-most : (f : Job → ℕ) (js : List Job) (c : List ℕ) (b : ℕ) → Column f js c
+column-at-most : (f : Job → ℕ) (js : List Job) (c : List ℕ) (b : ℕ) → Column f js c
     → ((i : ℕ) → f (getD js i noJob) ≤ b) → AtMost b c
 column-at-most f js c b column h i = rw (column i) (h i)
 

@@ -63,3 +63,8 @@ pub eqb-swap : (a b : ℕ) → eqb a b ≡ eqb b a
 eqb-swap a b =
     split (eqb a b) (λ h. h ∙ sym (eq-eqb b a (sym (eqb-true a b h))))
     (λ h. h ∙ sym (ne-eqb b a (λ e. eqb-false a b h (sym e))))
+
+pub or-swap : (a b c : Bool) → a || (b || c) ≡ b || (a || c)
+or-swap true true c = refl
+or-swap true false c = refl
+or-swap false b c = refl

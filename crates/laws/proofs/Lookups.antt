@@ -7,7 +7,7 @@ use mathlib.Core.Path.{_≡_, refl, sym, ap, _∙_}
 use Prim.Native.Nat.{ℕ, suc, _+_, _≤_, _<_}
 use native.Mathlib.Omega.{arith}
 use lib.ListN.{length}
-use Rattle.laws.proofs.Choices.{neither, nothing-there, one-there, split}
+use Rattle.laws.proofs.Choices.{neither, nothing-there, one-there, or-swap, split}
 use Rattle.laws.proofs.Tests.{both-true}
 use Rattle.rules.specs.Lists.{Each, all, any, find, keep, none-left, place, sorted, total, _and_}
 
@@ -194,12 +194,7 @@ module _ {A : Type 0} where
       → any p (place before x ys) ≡ p x || any p ys
   any-place p before x [] = refl
   any-place p before x (y ∷ ys) =
-      split (before x y) (λ b. rw b) (λ b. rw b (rw (any-place p before x ys) (swap (p y) (p x) (any p ys))))
-    where
-      swap : (a b c : Bool) → a || (b || c) ≡ b || (a || c)
-      swap true true c = refl
-      swap true false c = refl
-      swap false b c = refl
+      split (before x y) (λ b. rw b) (λ b. rw b (rw (any-place p before x ys) (or-swap (p y) (p x) (any p ys))))
 
   pub each-sorted : {P : A → Type 0} (before : A → A → Bool) {xs : List A} → Each P xs → Each P (sorted before xs)
   each-sorted before none-left = none-left

@@ -219,13 +219,8 @@ fn course_of<'a>(
         terms,
     );
     let ratios = chain_ratios(&left.fates, &left.waits, cycles, worth, termination, terms);
-    let turns = turn_order(
-        &left.fates,
-        number,
-        &ratios.over,
-        &ratios.under,
-        terms.job_count,
-    );
+    let jobs = terms.job_count;
+    let turns = turn_order(&left.fates, number, &ratios.over, &ratios.under, jobs);
     let so_far = left.fates;
     take_turns(
         &turns.order,

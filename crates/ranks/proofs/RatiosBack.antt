@@ -34,8 +34,8 @@ module _ (t : Records) (k r : ℕ) where
 
 -- from place n on the columns hold the ratio of each job of fate 0
 pub record RatiosFrom (t : Records) (fates : List ℕ) (n : ℕ) (over under : List ℕ) : Type 0 where
-  pub over-from : FilledFrom (λ k. ratioAt t k .over) (length (t .jobs)) fates n over
-  pub under-from : FilledFrom (λ k. ratioAt t k .under) (length (t .jobs)) fates n under
+  over-from : FilledFrom (λ k. ratioAt t k .over) (length (t .jobs)) fates n over
+  under-from : FilledFrom (λ k. ratioAt t k .under) (length (t .jobs)) fates n under
 
 module _ (t : Records) (fates : List ℕ) (n : ℕ) (over under : List ℕ) where
   pub no-ratio : length (t .jobs) ≤ n → RatiosFrom t fates n over under

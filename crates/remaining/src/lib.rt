@@ -11,6 +11,7 @@ use rules::FATE_LATE;
 use rules::Hold;
 use rules::MOST_HOLDS;
 use rules::MOST_JOBS;
+use rules::NO_FATE;
 ghost use mathlib.Core.Bool.{cond, not};
 ghost use mathlib.Core.Path.{_≡_};
 ghost use Prim.Native.Nat.{_≤_, _<_};
@@ -35,7 +36,7 @@ fn fate_if_late(clock: u64, mhz: u64, cycles: u64, termination: u64) -> u64
     if late(clock, mhz, cycles, termination) {
         return FATE_LATE;
     }
-    0
+    NO_FATE
 }
 
 // Step 1, "Late alone": fate 2 at the place of each job that is late.
@@ -48,7 +49,7 @@ fn late_fates<'a>(
     ensures { λ r. ⌜ LateFates (now (cycles .entry)) (now (termination .entry)) terms r ⌝ }
 {
     let count = terms.job_count;
-    let mut fates = [0; MOST_JOBS];
+    let mut fates = [NO_FATE; MOST_JOBS];
     let mut i = 0;
     while i < count {
         let fate = fate_if_late(terms.clock, terms.mhz, cycles[i], termination[i]);
@@ -92,13 +93,13 @@ fn ring_fate<'a>(
     requires { ⌜ (place < mostJobs) × AtMost mostWorth (now worth) × AtMost mostCycles (now cycles) ⌝ }
     ensures { λ r. ⌜ RingFate late place (now (waits .entry)) (now (number .entry)) (now (worth .entry)) (now (cycles .entry)) r ⌝ }
 {
-    if late != 0 {
+    if late != NO_FATE {
         return late;
     }
     if leaves_ring(place, waits, number, worth, cycles) {
         return FATE_DEADLOCK;
     }
-    0
+    NO_FATE
 }
 
 // Step 2, "On each ring": the fates of step 1, with 3 at the place of each job that leaves its ring.
@@ -113,7 +114,7 @@ fn ring_fates<'a>(
     requires { ⌜ («job_count» ≤ mostJobs) × AtMost mostWorth (now worth) × AtMost mostCycles (now cycles) ⌝ }
     ensures { λ r. ⌜ RingFates (now (late .entry)) (now (waits .entry)) (now (number .entry)) (now (worth .entry)) (now (cycles .entry)) «job_count» r ⌝ }
 {
-    let mut fates = [0; MOST_JOBS];
+    let mut fates = [NO_FATE; MOST_JOBS];
     let mut i = 0;
     while i < job_count {
         let fate = ring_fate(late[i], i, waits, number, worth, cycles);

@@ -14,8 +14,8 @@ use Rattle.columns.specs.Columns.{entriesIn, entryAt}
 use Rattle.entries.proofs.Entries.{below-without}
 use Rattle.entries.proofs.Found.{found-among, removed-at-index}
 use Rattle.entries.proofs.Moved.{moved-to}
-use Rattle.entries.proofs.Searches.{first-at-most-length, first-without, index-holds}
-use Rattle.entries.specs.Places.{indexOf, placeFor, withAt, withoutAt}
+use Rattle.entries.proofs.Searches.{first-at-most-length, first-without, index-holds, withoutAt}
+use Rattle.entries.specs.Places.{indexOf, placeFor, withAt}
 use Rattle.entries.specs.Promises.{Inserted}
 use Rattle.laws.proofs.Pairs.{among}
 use Rattle.rules.specs.Lists.{Rising, find, onlyIf}

@@ -1,7 +1,7 @@
 -- A plan of places in the order of their keys, none twice, with one put in that it does not have, or with one taken
 -- out, has none twice either, stands in that order, and has its keys tell which are in it. Places below 64, none twice,
 -- are at most 64, so that there is room for one more that the plan does not have. Assumes nothing.
-use mathlib.Core.Bool.{Bool, true, false, _||_}
+use mathlib.Core.Bool.{true, false, _||_}
 use mathlib.Core.List.{List, [], _∷_}
 use mathlib.Core.Path.{_≡_, refl, sym, ap, _∙_}
 use Prim.Native.Nat.{ℕ, zero, suc, _+_, _≤_, _<_}
@@ -13,10 +13,10 @@ use lib.ListN.{length, getD, length-set, set, take}
 use lib.Seq.{getD-set-other, getD-set-same, getD-take, length-take-le}
 use Rattle.columns.specs.Columns.{AllBelow, entriesIn}
 use Rattle.entries.proofs.Entries.{below-with, below-without, entries-with}
-use Rattle.entries.proofs.Searches.{some-where-first-inside}
-use Rattle.entries.specs.Places.{firstWhere, indexOf, placeFor, withAt, withoutAt}
+use Rattle.entries.proofs.Searches.{some-where-first-inside, withoutAt}
+use Rattle.entries.specs.Places.{firstWhere, indexOf, placeFor, withAt}
 use Rattle.entries.specs.Promises.{Inserted}
-use Rattle.laws.proofs.Choices.{eqb-swap, split}
+use Rattle.laws.proofs.Choices.{eqb-swap, or-swap, split}
 use Rattle.laws.proofs.Elements.{each-too}
 use Rattle.laws.proofs.Lookups.{any-none, each-both, none-any}
 use Rattle.laws.proofs.Pairs.{Distinct, Pairwise, among, no-longer, no-pair, pairs-too, _then_}
@@ -25,11 +25,6 @@ use Rattle.rules.specs.Plan.{insert}
 use Rattle.rules.specs.TableText.{mostJobs, noJob}
 use Rattle.rules.specs.declared.Job.{Job}
 use Rattle.trials.specs.Promises.{Sorted, Standing, notPlanned, planIn}
-
-or-swap : (a b c : Bool) → a || (b || c) ≡ b || (a || c)
-or-swap true true c = refl
-or-swap true false c = refl
-or-swap false b c = refl
 
 -- one put in
 among-with : (at n : ℕ) (ns : List ℕ) (m : ℕ) → among (withAt at n ns) m ≡ eqb m n || among ns m

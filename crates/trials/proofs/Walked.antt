@@ -2,13 +2,12 @@
 -- make of the plan with which the walk began: a member's step takes one from the chain, and a chain without members
 -- leaves the plan as it is. Assumes nothing.
 use mathlib.Core.List.{List}
-use mathlib.Core.Logic.{⊎-elim}
 use mathlib.Core.Option.{Option, none}
 use mathlib.Core.Path.{_≡_, refl, sym, ap, _∙_}
 use Prim.Native.Nat.{ℕ, zero, suc, _+_, _≤_, _<_}
 use native.Mathlib.Omega.{arith}
 use lib.ListN.{getD, length, take}
-use Rattle.chains.proofs.Walks.{job-at, nobody-at}
+use Rattle.chains.proofs.Walks.{is-place, job-at, nobody-at}
 use Rattle.chains.specs.Waits.{PlaceOrNobody, Waits, atPlace}
 use Rattle.columns.specs.Columns.{Column}
 use Rattle.entries.specs.Promises.{Inserted, mostTime}
@@ -43,10 +42,6 @@ module _ (next : Job → Option Job) where
     nobody-met : (n at : ℕ) (s : Limited) → mostJobs ≤ at → members (follow next n (atPlace js at)) s ≡ s
     nobody-met n at s h =
         ap (λ o. members (follow next n o) s) (nobody-at js at (omega (arith, column .few))) ∙ nobody-left n s
-
--- a place below 64 is a job's
-of-a-job : (js : List Job) (at : ℕ) → PlaceOrNobody js at → at < mostJobs → at < length js
-of-a-job js at w h = ⊎-elim (λ (l : at < length js). l) (λ (e : at ≡ mostJobs). absurd (omega arith)) w
 
 -- the plan with the limit
 abbrev limitedIn : List Job → Middle → List ℕ → List ℕ → Limited
@@ -86,7 +81,7 @@ module _ (waits critical places₀ keys₀ : List ℕ) (from₀ : Middle) (at₀
         → Walked waits critical places₀ keys₀ from₀ at₀ places' keys' r (getD waits at 0) left'
     walk-goes-on places' keys' r left' h e stepped =
         let here : (js : List Job) (next : Job → Option Job) → Waits js next waits → PlaceOrNobody js at₀
-        → at < length js = λ js next column w. of-a-job js at (walked .at-place js next column w) h in
+        → at < length js = λ js next column w. is-place js at (walked .at-place js next column w) h in
         record {
           standing = stepped .standing;
           limit-small = omega (arith, walked .limit-small, stepped .not-above);

@@ -52,7 +52,7 @@ planIn js count places keys = entriesIn js keys (take count places)
 abbrev pub OfJobs : List Job → ℕ → List ℕ → Type 0
 OfJobs js count places = AllBelow (length js) (take count places)
 
--- A plan in mid-trial, with a limit in its range, and a member's place.
+-- A plan in mid-trial, with a limit in its range, an index of the plan to look at first, and a member's place.
 pub record Steppable (from : Middle) (place : ℕ) (places keys : List ℕ) : Type 0 where
   pub standing : Standing (from .count) places keys
   pub limit-small : from .limit ≤ mostTime
@@ -99,7 +99,8 @@ pub record Judged (places cycles termination : List ℕ) (terms : Terms) (r : �
       → Column (λ j. j .termination) (t .jobs) termination → (q : List Entry) → jobsOf q ≡ jobsAt (t .jobs) places
       → r ≡ cond (endsLate t q) fateTime (cond (tooDear t q) fateBudget fatePlanned)
 
--- A plan, a place, and columns, clock, speed and cost in their ranges: no sum or product wraps.
+-- A plan, a place, as many places to keep the plan's in, and columns, clock, speed and cost in their ranges: no sum or
+-- product wraps.
 pub record Turnable (count place : ℕ) (places keys spare critical cycles termination : List ℕ) (terms : Terms)
     : Type 0 where
   pub standing : Standing count places keys

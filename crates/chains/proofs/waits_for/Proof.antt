@@ -1,29 +1,25 @@
 -- `chains::waits_for` meets its contract. What stands at the requested resource is the place of its holder or nobody's; a
 -- holder whose fate is 0 remains and is waited for, and of one that was taken out the resource is free. Assumes nothing.
 use mathlib.Core.List.{List}
-use mathlib.Core.Logic.{inr, ⊎-elim}
+use mathlib.Core.Logic.{inr}
 use mathlib.Core.Path.{_≡_, refl, sym, _∙_}
 use Prim.Native.Nat.{ℕ, _≤_, _<_}
 use native.Mathlib.Omega.{arith}
 use borrow.Author.Needs.{needs}
 use borrow.Author.Tests.{eq-eqb, ne-eqb}
 use lib.Dec.{eqb}
-use lib.ListN.{getD, length}
+use lib.ListN.{getD}
 use Rattle.chains.proofs.Remaining.{holder-remains, holder-taken-out, nobody-holds}
-use Rattle.chains.proofs.Walks.{job-at, nobody-at}
+use Rattle.chains.proofs.Walks.{job-at, nobody-at, is-place}
 use Rattle.chains.proofs.waits_for.Statement.{statement}
 use Rattle.chains.proofs.waits_for.Tie as tie
 use Rattle.chains.specs.Promises.{WaitsFor}
-use Rattle.chains.specs.Waits.{PlaceOrNobody}
 use Rattle.columns.specs.Columns.{Column}
 use Rattle.rules.specs.Lists.{find}
 use Rattle.rules.specs.Plan.{asksFor, holderIn, waitsFor}
 use Rattle.rules.specs.TableText.{mostHolds, mostJobs, noJob}
 use Rattle.rules.specs.declared.Hold.{Hold}
 use Rattle.rules.specs.declared.Job.{Job}
-
-is-place : (js : List Job) (p : ℕ) → PlaceOrNobody js p → p < mostJobs → p < length js
-is-place js p w h = ⊎-elim (λ (l : p < length js). l) (λ (e : p ≡ mostJobs). absurd (omega arith)) w
 
 module _ (place : ℕ) (requests holder-at fates : List ℕ) (small : getD requests place 0 ≤ mostHolds) where
   abbrev resource : ℕ

@@ -7,7 +7,6 @@ use lib.ListN.{length, length-map, take}
 use Rattle.plans.proofs.Deciding.{some-speed, table-concludable, table-runnable, terms-of-table}
 use Rattle.rules.specs.TableText.{mostHolds, mostJobs, mostSpeeds, recordsOf}
 use Rattle.rules.specs.declared.Table.{Table}
-use borrow.Author.Needs.{needs}
 use Rattle.plans.proofs.decide.Statement.{statement}
 use Rattle.plans.proofs.decide.Tie as tie
 
