@@ -1,13 +1,19 @@
 -- `reader::read` meets its contract. The invariant: what has been stored and noted are the records of the lines so far, and
 -- reading all of the text comes to the same as going on from them with the rest of it. Each turn takes one line. Assumes
 -- nothing.
+use mathlib.Core.Bool.{false}
 use mathlib.Core.List.{List}
-use mathlib.Core.Path.{ap, _∙_}
+use mathlib.Core.Path.{_≡_, ap, _∙_}
 use Prim.Native.Nat.{ℕ, _-_, _<_}
 use native.Mathlib.Omega.{arith}
 use lib.ListN.{length}
 use Rattle.records.specs.declared.Standing.{Standing}
+use Rattle.rules.specs.TableText.{mostHolds, mostJobs, mostSpeeds}
+use Rattle.rules.specs.declared.Hold.{Hold}
+use Rattle.rules.specs.declared.Job.{Job}
+use Rattle.rules.specs.declared.Speed.{Speed}
 use Rattle.text.specs.Lines.{isRefused}
+use Rattle.text.specs.declared.Parsed.{Parsed}
 use Rattle.lines.specs.Step.{LineAccepted, afterParsed, countOf}
 use Rattle.reader.proofs.Ends.{all-read, at-start, no-speed, refused-line}
 use Rattle.reader.proofs.OneMore.{clock-more, hold-more, hold-room, job-more, job-room, speed-more, speed-room}
@@ -46,6 +52,41 @@ line : (c : Judged-line) → let l = c .before .before .before .before .before .
     LineAccepted (text-of c) (l .place) (begunWith (l .before) (l .inv .records)) (c .before .before .before .accept-line .result)
 line c = let l = c .before .before .before .before .before .before .before .before .loop in c .before .before .before .accept-line .ensures (begunWith (l .before) (l .inv .records)) (l .inv .noted)
 
+abbrev parsed-of : Judged-line → Parsed
+parsed-of k = k .before .before .before .accept-line .result .parsed
+
+-- a line that is not refused moves the reading place on
+moves : (k : Judged-line) → isRefused (parsed-of k) ≡ false
+    → k .before .before .before .before .before .before .before .before .loop .place .at < k .before .before .before .accept-line .result .next .at
+moves k good =
+    let l = k .before .before .before .before .before .before .before .before .loop in
+    goes-on (text-of k) (l .table) (l .numbers) (l .requests) (l .before) (l .place) (l .inv) (inside k) (k .before .before .before .accept-line .result) (line k) good
+
+-- what is counted before the line, and the state after it, by what it holds
+counted : (k : Judged-line) (p : Parsed) → parsed-of k ≡ p
+    → k .before .before .count-of .result ≡ countOf (k .before .before .before .before .before .before .before .before .loop .before) p
+counted k p e = k .before .before .count-of .ensures ∙ ap (countOf (k .before .before .before .before .before .before .before .before .loop .before)) e
+
+stood : (k : Judged-line) (p : Parsed) → parsed-of k ≡ p
+    → k .before .after .result ≡ afterParsed (k .before .before .before .before .before .before .before .before .loop .before) p
+stood k p e = k .before .after .ensures ∙ ap (afterParsed (k .before .before .before .before .before .before .before .before .loop .before)) e
+
+-- its record has a place
+speed-place : (k : Judged-line) (f : Speed) → parsed-of k ≡ Parsed.Speed f → k .before .before .count-of .result < mostSpeeds
+speed-place k f e =
+    let l = k .before .before .before .before .before .before .before .before .loop in
+    omega (arith, counted k (Parsed.Speed f) e, speed-room (text-of k) (l .table) (l .numbers) (l .requests) (l .before) (l .place) (l .inv) (inside k) (k .before .before .before .accept-line .result) (line k) f e)
+
+job-place : (k : Judged-line) (j : Job) → parsed-of k ≡ Parsed.Job j → k .before .before .count-of .result < mostJobs
+job-place k j e =
+    let l = k .before .before .before .before .before .before .before .before .loop in
+    omega (arith, counted k (Parsed.Job j) e, job-room (text-of k) (l .table) (l .numbers) (l .requests) (l .before) (l .place) (l .inv) (inside k) (k .before .before .before .accept-line .result) (line k) j e)
+
+hold-place : (k : Judged-line) (h : Hold) → parsed-of k ≡ Parsed.Hold h → k .before .before .count-of .result < mostHolds
+hold-place k h e =
+    let l = k .before .before .before .before .before .before .before .before .loop in
+    omega (arith, counted k (Parsed.Hold h) e, hold-room (text-of k) (l .table) (l .numbers) (l .requests) (l .before) (l .place) (l .inv) (inside k) (k .before .before .before .accept-line .result) (line k) h e)
+
 no-records-requires : tie.Need-no-records-requires Inv-loop μ-loop
 no-records-requires c κs = search needs
 
@@ -78,164 +119,92 @@ enum-known-parsed c = search needs
 loop-less : tie.Need-loop-less Inv-loop μ-loop
 unfolding isRefused
 loop-less c =
-    let k = c .before .before .before in
-    let l = k .before .before .before .before .before .before .before .before .loop in
-    let e = c .before .parsed .given in
-    omega (arith, inside k, goes-on (text-of k) (l .table) (l .numbers) (l .requests) (l .before) (l .place) (l .inv) (inside k) (k .before .before .before .accept-line .result) (line k) (ap isRefused (e .1)))
+    let k = c .before .before .before in omega (arith, inside k, moves k (ap isRefused (c .before .parsed .given .1)))
 
 loop-again : tie.Need-loop-again Inv-loop μ-loop
 loop-again c =
     let k = c .before .before .before in
     let l = k .before .before .before .before .before .before .before .before .loop in
     let e = c .before .parsed .given in
-    rw (k .before .after .ensures ∙ ap (afterParsed (l .before)) (e .1)) (clock-more (text-of k) (l .table) (l .numbers) (l .requests) (l .before) (l .place) (l .inv) (inside k) (k .before .before .before .accept-line .result) (line k) (e .0 .0) (e .0 .1 .0) (e .1))
+    rw (stood k _ (e .1)) (clock-more (text-of k) (l .table) (l .numbers) (l .requests) (l .before) (l .place) (l .inv) (inside k) (k .before .before .before .accept-line .result) (line k) (e .0 .0) (e .0 .1 .0) (e .1))
 
 enum-known-parsed-2 : tie.Need-enum-known-parsed-2 Inv-loop μ-loop
 enum-known-parsed-2 c = search needs
 
 mul-speed : tie.Need-mul-speed Inv-loop μ-loop
-mul-speed c =
-    let k = c .before .before .before in
-    let l = k .before .before .before .before .before .before .before .before .loop in
-    let e = c .before .parsed2 .given in
-    let n = k .before .before .count-of .ensures ∙ ap (countOf (l .before)) (e .1) in
-    let room = speed-room (text-of k) (l .table) (l .numbers) (l .requests) (l .before) (l .place) (l .inv) (inside k) (k .before .before .before .accept-line .result) (line k) (e .0 .0) (e .1) in
-    omega arith
+mul-speed c = let e = c .before .parsed2 .given in omega (arith, speed-place (c .before .before .before) (e .0 .0) (e .1))
 
 element-set-from-speed : tie.Need-element-set-from-speed Inv-loop μ-loop
-element-set-from-speed c =
-    let k = c .before .before .before in
-    let l = k .before .before .before .before .before .before .before .before .loop in
-    let e = c .before .parsed2 .given in
-    let n = k .before .before .count-of .ensures ∙ ap (countOf (l .before)) (e .1) in
-    let room = speed-room (text-of k) (l .table) (l .numbers) (l .requests) (l .before) (l .place) (l .inv) (inside k) (k .before .before .before .accept-line .result) (line k) (e .0 .0) (e .1) in
-    omega arith
+element-set-from-speed c = let e = c .before .parsed2 .given in omega (arith, speed-place (c .before .before .before) (e .0 .0) (e .1))
 
 loop-less-2 : tie.Need-loop-less-2 Inv-loop μ-loop
 unfolding isRefused
 loop-less-2 c =
-    let k = c .before .before .before in
-    let l = k .before .before .before .before .before .before .before .before .loop in
-    let e = c .before .parsed2 .given in
-    omega (arith, inside k, goes-on (text-of k) (l .table) (l .numbers) (l .requests) (l .before) (l .place) (l .inv) (inside k) (k .before .before .before .accept-line .result) (line k) (ap isRefused (e .1)))
+    let k = c .before .before .before in omega (arith, inside k, moves k (ap isRefused (c .before .parsed2 .given .1)))
 
 loop-again-2 : tie.Need-loop-again-2 Inv-loop μ-loop
 loop-again-2 c =
     let k = c .before .before .before in
     let l = k .before .before .before .before .before .before .before .before .loop in
     let e = c .before .parsed2 .given in
-    rw (k .before .after .ensures ∙ ap (afterParsed (l .before)) (e .1))
-    (rw (k .before .before .count-of .ensures ∙ ap (countOf (l .before)) (e .1)) (speed-more (text-of k) (l .table) (l .numbers) (l .requests) (l .before) (l .place) (l .inv) (inside k) (k .before .before .before .accept-line .result) (line k) (e .0 .0) (e .1)))
+    rw (stood k _ (e .1))
+    (rw (counted k _ (e .1)) (speed-more (text-of k) (l .table) (l .numbers) (l .requests) (l .before) (l .place) (l .inv) (inside k) (k .before .before .before .accept-line .result) (line k) (e .0 .0) (e .1)))
 
 enum-known-parsed-3 : tie.Need-enum-known-parsed-3 Inv-loop μ-loop
 enum-known-parsed-3 c = search needs
 
 mul-job : tie.Need-mul-job Inv-loop μ-loop
-mul-job c =
-    let k = c .before .before .before in
-    let l = k .before .before .before .before .before .before .before .before .loop in
-    let e = c .before .parsed3 .given in
-    let n = k .before .before .count-of .ensures ∙ ap (countOf (l .before)) (e .1) in
-    let room = job-room (text-of k) (l .table) (l .numbers) (l .requests) (l .before) (l .place) (l .inv) (inside k) (k .before .before .before .accept-line .result) (line k) (e .0 .0) (e .1) in
-    omega arith
+mul-job c = let e = c .before .parsed3 .given in omega (arith, job-place (c .before .before .before) (e .0 .0) (e .1))
 
 element-set-from-job : tie.Need-element-set-from-job Inv-loop μ-loop
-element-set-from-job c =
-    let k = c .before .before .before in
-    let l = k .before .before .before .before .before .before .before .before .loop in
-    let e = c .before .parsed3 .given in
-    let n = k .before .before .count-of .ensures ∙ ap (countOf (l .before)) (e .1) in
-    let room = job-room (text-of k) (l .table) (l .numbers) (l .requests) (l .before) (l .place) (l .inv) (inside k) (k .before .before .before .accept-line .result) (line k) (e .0 .0) (e .1) in
-    omega arith
+element-set-from-job c = let e = c .before .parsed3 .given in omega (arith, job-place (c .before .before .before) (e .0 .0) (e .1))
 
 mul-numbers : tie.Need-mul-numbers Inv-loop μ-loop
-mul-numbers c =
-    let k = c .before .before .before in
-    let l = k .before .before .before .before .before .before .before .before .loop in
-    let e = c .before .parsed3 .given in
-    let n = k .before .before .count-of .ensures ∙ ap (countOf (l .before)) (e .1) in
-    let room = job-room (text-of k) (l .table) (l .numbers) (l .requests) (l .before) (l .place) (l .inv) (inside k) (k .before .before .before .accept-line .result) (line k) (e .0 .0) (e .1) in
-    omega arith
+mul-numbers c = let e = c .before .parsed3 .given in omega (arith, job-place (c .before .before .before) (e .0 .0) (e .1))
 
 array-write-numbers : tie.Need-array-write-numbers Inv-loop μ-loop
-array-write-numbers c =
-    let k = c .before .before .before in
-    let l = k .before .before .before .before .before .before .before .before .loop in
-    let e = c .before .parsed3 .given in
-    let n = k .before .before .count-of .ensures ∙ ap (countOf (l .before)) (e .1) in
-    let room = job-room (text-of k) (l .table) (l .numbers) (l .requests) (l .before) (l .place) (l .inv) (inside k) (k .before .before .before .accept-line .result) (line k) (e .0 .0) (e .1) in
-    omega (arith, l .inv .numbers-whole)
+array-write-numbers c = let e = c .before .parsed3 .given in omega (arith, job-place (c .before .before .before) (e .0 .0) (e .1), c .before .before .before .before .before .before .before .before .before .before .before .loop .inv .numbers-whole)
 
 mul-requests : tie.Need-mul-requests Inv-loop μ-loop
-mul-requests c =
-    let k = c .before .before .before in
-    let l = k .before .before .before .before .before .before .before .before .loop in
-    let e = c .before .parsed3 .given in
-    let n = k .before .before .count-of .ensures ∙ ap (countOf (l .before)) (e .1) in
-    let room = job-room (text-of k) (l .table) (l .numbers) (l .requests) (l .before) (l .place) (l .inv) (inside k) (k .before .before .before .accept-line .result) (line k) (e .0 .0) (e .1) in
-    omega arith
+mul-requests c = let e = c .before .parsed3 .given in omega (arith, job-place (c .before .before .before) (e .0 .0) (e .1))
 
 array-write-requests : tie.Need-array-write-requests Inv-loop μ-loop
-array-write-requests c =
-    let k = c .before .before .before in
-    let l = k .before .before .before .before .before .before .before .before .loop in
-    let e = c .before .parsed3 .given in
-    let n = k .before .before .count-of .ensures ∙ ap (countOf (l .before)) (e .1) in
-    let room = job-room (text-of k) (l .table) (l .numbers) (l .requests) (l .before) (l .place) (l .inv) (inside k) (k .before .before .before .accept-line .result) (line k) (e .0 .0) (e .1) in
-    omega (arith, l .inv .requests-whole)
+array-write-requests c = let e = c .before .parsed3 .given in omega (arith, job-place (c .before .before .before) (e .0 .0) (e .1), c .before .before .before .before .before .before .before .before .before .before .before .loop .inv .requests-whole)
 
 loop-less-3 : tie.Need-loop-less-3 Inv-loop μ-loop
 unfolding isRefused
 loop-less-3 c =
-    let k = c .before .before .before in
-    let l = k .before .before .before .before .before .before .before .before .loop in
-    let e = c .before .parsed3 .given in
-    omega (arith, inside k, goes-on (text-of k) (l .table) (l .numbers) (l .requests) (l .before) (l .place) (l .inv) (inside k) (k .before .before .before .accept-line .result) (line k) (ap isRefused (e .1)))
+    let k = c .before .before .before in omega (arith, inside k, moves k (ap isRefused (c .before .parsed3 .given .1)))
 
 loop-again-3 : tie.Need-loop-again-3 Inv-loop μ-loop
 loop-again-3 c =
     let k = c .before .before .before in
     let l = k .before .before .before .before .before .before .before .before .loop in
     let e = c .before .parsed3 .given in
-    rw (k .before .after .ensures ∙ ap (afterParsed (l .before)) (e .1))
-    (rw (k .before .before .count-of .ensures ∙ ap (countOf (l .before)) (e .1)) (job-more (text-of k) (l .table) (l .numbers) (l .requests) (l .before) (l .place) (l .inv) (inside k) (k .before .before .before .accept-line .result) (line k) (e .0 .0) (e .1)))
+    rw (stood k _ (e .1))
+    (rw (counted k _ (e .1)) (job-more (text-of k) (l .table) (l .numbers) (l .requests) (l .before) (l .place) (l .inv) (inside k) (k .before .before .before .accept-line .result) (line k) (e .0 .0) (e .1)))
 
 enum-known-parsed-4 : tie.Need-enum-known-parsed-4 Inv-loop μ-loop
 enum-known-parsed-4 c = search needs
 
 mul-hold : tie.Need-mul-hold Inv-loop μ-loop
-mul-hold c =
-    let k = c .before .before .before in
-    let l = k .before .before .before .before .before .before .before .before .loop in
-    let e = c .before .parsed4 .given in
-    let n = k .before .before .count-of .ensures ∙ ap (countOf (l .before)) (e .1) in
-    let room = hold-room (text-of k) (l .table) (l .numbers) (l .requests) (l .before) (l .place) (l .inv) (inside k) (k .before .before .before .accept-line .result) (line k) (e .0 .0) (e .1) in
-    omega arith
+mul-hold c = let e = c .before .parsed4 .given in omega (arith, hold-place (c .before .before .before) (e .0 .0) (e .1))
 
 element-set-from-hold : tie.Need-element-set-from-hold Inv-loop μ-loop
-element-set-from-hold c =
-    let k = c .before .before .before in
-    let l = k .before .before .before .before .before .before .before .before .loop in
-    let e = c .before .parsed4 .given in
-    let n = k .before .before .count-of .ensures ∙ ap (countOf (l .before)) (e .1) in
-    let room = hold-room (text-of k) (l .table) (l .numbers) (l .requests) (l .before) (l .place) (l .inv) (inside k) (k .before .before .before .accept-line .result) (line k) (e .0 .0) (e .1) in
-    omega arith
+element-set-from-hold c = let e = c .before .parsed4 .given in omega (arith, hold-place (c .before .before .before) (e .0 .0) (e .1))
 
 loop-less-4 : tie.Need-loop-less-4 Inv-loop μ-loop
 unfolding isRefused
 loop-less-4 c =
-    let k = c .before .before .before in
-    let l = k .before .before .before .before .before .before .before .before .loop in
-    let e = c .before .parsed4 .given in
-    omega (arith, inside k, goes-on (text-of k) (l .table) (l .numbers) (l .requests) (l .before) (l .place) (l .inv) (inside k) (k .before .before .before .accept-line .result) (line k) (ap isRefused (e .1)))
+    let k = c .before .before .before in omega (arith, inside k, moves k (ap isRefused (c .before .parsed4 .given .1)))
 
 loop-again-4 : tie.Need-loop-again-4 Inv-loop μ-loop
 loop-again-4 c =
     let k = c .before .before .before in
     let l = k .before .before .before .before .before .before .before .before .loop in
     let e = c .before .parsed4 .given in
-    rw (k .before .after .ensures ∙ ap (afterParsed (l .before)) (e .1))
-    (rw (k .before .before .count-of .ensures ∙ ap (countOf (l .before)) (e .1)) (hold-more (text-of k) (l .table) (l .numbers) (l .requests) (l .before) (l .place) (l .inv) (inside k) (k .before .before .before .accept-line .result) (line k) (e .0 .0) (e .1)))
+    rw (stood k _ (e .1))
+    (rw (counted k _ (e .1)) (hold-more (text-of k) (l .table) (l .numbers) (l .requests) (l .before) (l .place) (l .inv) (inside k) (k .before .before .before .accept-line .result) (line k) (e .0 .0) (e .1)))
 
 enum-known-parsed-5 : tie.Need-enum-known-parsed-5 Inv-loop μ-loop
 enum-known-parsed-5 c = search needs
