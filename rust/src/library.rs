@@ -126,6 +126,16 @@ enum Way {
 }
 
 /// The library, ready to be called.
+///
+/// ```
+/// # use cuddlelamb::{library::Library, reference::Refused};
+/// # let text = b"T\t0\t99\nF\t1000\t1\nJ\t7\t10\t5\t500\t500\t0\n";
+/// let (mut order, mut fates) = ([0; 64], [0; 64]);
+/// let plan = Library::open().plan(text, &mut order, &mut fates)?; // or Err(Refused { number, line })
+/// println!("{:?} at {} MHz", &order[..plan.count], plan.speed);
+/// # assert_eq!((&order[..plan.count], fates[0], plan.speed), (&[7][..], 1, 1000));
+/// # Ok::<(), Refused>(())
+/// ```
 pub struct Library {
     way: Way,
 }
