@@ -45,7 +45,7 @@ enum {
     CUDDLELAMB_HOLDS = 32,   /* places for H lines */
     CUDDLELAMB_COSTS = 7,    /* costs of a supplied model */
     CUDDLELAMB_TEXT = 3653,  /* bytes of the longest valid text: room enough for cuddlelamb_write */
-    CUDDLELAMB_LISTING = 1179 /* bytes of the longest listing: room enough for cuddlelamb_list */
+    CUDDLELAMB_LISTING = 1118 /* bytes of the longest listing: room enough for cuddlelamb_list */
 };
 
 /* The fates of a job. */

@@ -467,11 +467,14 @@ fn the_longest_text() {
 
 #[test]
 fn the_longest_listing() {
-    let speed = format!("F {} 4000000", 1000);
-    let jobs: Vec<String> = (0..64).map(|at| format!("J {} 1000000 1 0 1000000000 0", 1000 + at)).collect();
-    let lines = format!("T 936000000 1000000000000000 / {speed} / {}", jobs.join(" / "));
+    let long = (1000..1060).map(|number| format!("J {number} 1000000 1 999999999 1000000000 0"));
+    let short = (1060..1064).map(|number| format!("J {number} 1 1 1000000000 1000000000 0"));
+    let jobs: Vec<String> = long.chain(short).collect();
+    let lines = format!("T 984999999 1000000000000000 / F 4000 4000000 / {}", jobs.join(" / "));
     let listed = listing(&text(&lines));
-    assert!(listed.starts_with(b"P\t1000\t256000000000000\t64\n"));
+    assert_eq!(listed.len(), 1118);
+    assert_eq!(LONGEST_LISTING, 1118);
+    assert!(listed.starts_with(b"P\t4000\t240000016000000\t64\n"));
     assert!(listed.ends_with(b"\t1000000000\n"));
 }
 

@@ -3,6 +3,14 @@
 use mathlib.Core.List.{List}
 use mathlib.Core.Path.{_≡_, refl, sym, ap, _∙_}
 use Prim.Native.Nat.{ℕ}
+use contract.Lifetimes.{Lfts}
+use denote.Ref.{RefT, now}
+use Rattle.boundary.proofs.cuddlelamb_allocate.Reads as allocate
+use Rattle.boundary.proofs.cuddlelamb_costs.Reads as costs
+use Rattle.boundary.proofs.cuddlelamb_list.Reads as list
+use Rattle.boundary.proofs.cuddlelamb_plan.Reads as plan
+use Rattle.boundary.proofs.cuddlelamb_read.Reads as read
+use Rattle.boundary.proofs.cuddlelamb_write.Reads as write
 use Rattle.boundary.specs.Told.{AllocatedAs, CostsAs, ListedAs, PlannedAs, ReadAs, WrittenAs, costsSays, cyclesSays, planSays, tableSays, textSays}
 use Rattle.boundary.specs.declared.CostsAnswer.{CostsAnswer}
 use Rattle.boundary.specs.declared.CyclesAnswer.{CyclesAnswer}
@@ -63,3 +71,29 @@ allocate-unique mean variance assurance r s p q = cycles-known r s (p .answer �
 
 pub costs-unique : (model : ℕ) (r s : CostsAnswer) → CostsAs model r → CostsAs model s → r ≡ s
 costs-unique model r s p q = costs-known r s (p .answer ∙ sym (q .answer))
+
+-- The contract of each call is its record.
+pub plan-says : (l : Lfts 3) (text order fates order′ fates′ : RefT (List ℕ)) (r : PlanAnswer)
+    → plan.Learnt l (text, (order, (fates, tt))) r (text, (order′, (fates′, tt)))
+    ≡ PlannedAs (now text) (now order) (now fates) r (now order′) (now fates′)
+plan-says l text order fates order′ fates′ r = refl
+
+pub list-says : (l : Lfts 2) (text out out′ : RefT (List ℕ)) (r : TextAnswer)
+    → list.Learnt l (text, (out, tt)) r (text, (out′, tt)) ≡ ListedAs (now text) (now out) r (now out′)
+list-says l text out out′ r = refl
+
+pub read-says : (l : Lfts 1) (text : RefT (List ℕ)) (r : TableAnswer)
+    → read.Learnt l (text, tt) r (text, tt) ≡ ReadAs (now text) r
+read-says l text r = refl
+
+pub write-says : (l : Lfts 1) (table : Table) (out out′ : RefT (List ℕ)) (r : TextAnswer)
+    → write.Learnt l (table, (out, tt)) r (table, (out′, tt)) ≡ WrittenAs table (now out) r (now out′)
+write-says l table out out′ r = refl
+
+pub allocate-says : (l : Lfts 0) (mean variance assurance : ℕ) (r : CyclesAnswer)
+    → allocate.Learnt l (mean, (variance, (assurance, tt))) r (mean, (variance, (assurance, tt)))
+    ≡ AllocatedAs mean variance assurance r
+allocate-says l mean variance assurance r = refl
+
+pub costs-says : (l : Lfts 0) (model : ℕ) (r : CostsAnswer) → costs.Learnt l (model, tt) r (model, tt) ≡ CostsAs model r
+costs-says l model r = refl

@@ -13,8 +13,8 @@ use Rattle.records.specs.declared.Standing.{Standing}
 use Rattle.rules.specs.Lists.{empty}
 use Rattle.rules.specs.Refusals.{Before, Item, Judged, Taken, accept, accepted, andThen, atEnd, refusedAt, refusedFor, takeFrom}
 use Rattle.rules.specs.declared.Refusal.{Refusal}
-use Rattle.checks.specs.Passing.{Passing, andPass, passFrom, passedOf, stopped, through, verdictPassed}
-use Rattle.checks.specs.Verdict.{verdictOf}
+use Rattle.checks.specs.Passing.{Passing, andPass, passFrom, passedOf, passedSays, stopped, through}
+use Rattle.checks.specs.Verdict.{checkSays}
 use Rattle.checks.specs.declared.Passed.{Passed}
 
 -- what the rest comes to, where the part is passed
@@ -52,13 +52,13 @@ module _ (line : ℕ) (b : Before) (xs ys : List Item) where
 -- the last part: behind it an F has been read
 pub last-part : (line : ℕ) (b : Before) (xs : List Item)
     → ((next : Before) → passFrom line b xs ≡ through next → empty (next .records .speeds) ≡ false)
-    → verdictOf (takeFrom line b xs) ≡ verdictPassed (passedOf (passFrom line b xs))
+    → checkSays (takeFrom line b xs) ≡ passedSays (passedOf (passFrom line b xs))
 unfolding takeFrom atEnd
 last-part line b xs some-speed =
-    ap (λ is. verdictOf (takeFrom line b is)) (sym (append-nil xs)) ∙ ap verdictOf (fold-parts line b xs []) ∙ go (passFrom line b xs) refl
+    ap (λ is. checkSays (takeFrom line b is)) (sym (append-nil xs)) ∙ ap checkSays (fold-parts line b xs []) ∙ go (passFrom line b xs) refl
   where
     go : (p : Passing) → passFrom line b xs ≡ p
-        → verdictOf (thenTake p (λ next. takeFrom (line + length xs) next [])) ≡ verdictPassed (passedOf p)
+        → checkSays (thenTake p (λ next. takeFrom (line + length xs) next [])) ≡ passedSays (passedOf p)
     go (through next) e = rw (some-speed next e)
     go (stopped why place) e = refl
 

@@ -1,7 +1,10 @@
--- Any two verdicts that the promise of `check_table` allows are equal: both are the verdict of the rules' check. Assumes
--- nothing.
-use mathlib.Core.Path.{_≡_, sym, _∙_}
+-- Any two verdicts that the promise of `check_table` allows are equal: both say what the rules' check says, and a verdict is
+-- known by what it says, as it is beside a supplied table. Assumes nothing.
+use mathlib.Core.List.{[]}
+use mathlib.Core.Path.{_≡_, sym, ap, _∙_}
 use Rattle.checks.proofs.check_table.Reads.{Learnt}
+use Rattle.laws.proofs.Unique.{supplied-unique}
+use Rattle.rules.specs.declared.Supplied.{Supplied}
 use Rattle.rules.specs.declared.Table.{Table}
 use Rattle.rules.specs.declared.Verdict.{Verdict}
 
@@ -10,4 +13,6 @@ abbrev pub Promised : Table → Verdict → Type 0
 Promised t r = Learnt _ (t, tt) r (t, tt)
 
 pub unique : (t : Table) (r s : Verdict) → Promised t r → Promised t s → r ≡ s
-unique t r s p q = p ∙ sym q
+unique t r s p q =
+    ap (λ (a : Supplied). a .verdict)
+    (supplied-unique (record { verdict = r; costs = [] }) (record { verdict = s; costs = [] }) (p ∙ sym q))

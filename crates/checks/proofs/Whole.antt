@@ -20,8 +20,8 @@ use Rattle.rules.specs.declared.Refusal.{Refusal}
 use Rattle.rules.specs.declared.Table.{Table}
 use Rattle.records.specs.Standing.{standingOf}
 use Rattle.records.specs.declared.Standing.{Standing as State}
-use Rattle.checks.specs.Passing.{JobsStand, andPass, clockStands, holdsPassed, jobsPassed, jobsStand, passFrom, passedOf, speedsPassed, speedsStand, stopped, through, verdictPassed}
-use Rattle.checks.specs.Verdict.{verdictOf}
+use Rattle.checks.specs.Passing.{JobsStand, andPass, clockStands, holdsPassed, jobsPassed, jobsStand, passFrom, passedOf, passedSays, speedsPassed, speedsStand, stopped, through}
+use Rattle.checks.specs.Verdict.{checkSays}
 use Rattle.checks.proofs.Letters.{all-through, holdPart, items, jobPart, speedPart}
 use Rattle.checks.proofs.Parts.{last-part, passed-reached, stopped-part, through-part}
 
@@ -145,7 +145,7 @@ module _ (t : Table) where
         }
 
         -- and the H decide
-        pub holds-decide : length (t .speeds) ≡ mostSpeeds → verdictOf (check t) ≡ verdictPassed (passedOf (holdsPassed t))
+        pub holds-decide : length (t .speeds) ≡ mostSpeeds → checkSays (check t) ≡ passedSays (passedOf (holdsPassed t))
         unfolding holdsPassed holdItems
         holds-decide whole =
             let line : ℕ = 2 + length (recordsOf t .speeds) + length (recordsOf t .jobs) in

@@ -6,6 +6,7 @@ use Prim.Native.Nat.{ℕ, _+_, _≤_}
 use lib.ListN.{length}
 use Rattle.records.specs.Standing.{standingOf}
 use Rattle.records.specs.declared.Standing.{Standing}
+use Rattle.rules.specs.Answers.{Answer, good, refused}
 use Rattle.rules.specs.Lists.{Rising}
 use Rattle.rules.specs.Refusals.{Before, Item, Judged, accept, accepted, holdItems, jobItems, refusedFor, speedItems}
 use Rattle.rules.specs.TableText.{Records, mostJobs, recordsOf}
@@ -14,7 +15,6 @@ use Rattle.rules.specs.declared.Job.{Job}
 use Rattle.rules.specs.declared.Refusal.{Refusal}
 use Rattle.rules.specs.declared.Speed.{Speed}
 use Rattle.rules.specs.declared.Table.{Table}
-use Rattle.rules.specs.declared.Verdict.{Verdict}
 use Rattle.checks.specs.declared.Passed.{Passed}
 
 -- "The first bad line decides": all items are accepted, and what stands behind them, or the first that is not.
@@ -74,6 +74,7 @@ pub record JobsStand (t : Table) (before : Standing) : Type 0 where
   pub few : t .«job_count» ≤ mostJobs
   pub rising : Rising (λ (j : Job). j .number) (recordsOf t .jobs)
 
-abbrev pub verdictPassed : Passed → Verdict
-verdictPassed (Passed.Through s) = Verdict.Done
-verdictPassed (Passed.Stopped why line) = Verdict.Refused why line
+-- nothing is refused so far, or the refusal and its line
+abbrev pub passedSays : Passed → Answer
+passedSays (Passed.Through s) = good []
+passedSays (Passed.Stopped why line) = refused why line []

@@ -1,8 +1,9 @@
 -- What the check of a table says.
+use mathlib.Core.List.{[]}
+use Rattle.rules.specs.Answers.{Answer, good, refused}
 use Rattle.rules.specs.Refusals.{Taken, refusedAt, taken}
-use Rattle.rules.specs.declared.Verdict.{Verdict}
 
--- The verdict on a table: done where its records are taken, else the refusal and its line.
-abbrev pub verdictOf : Taken → Verdict
-verdictOf (taken r) = Verdict.Done
-verdictOf (refusedAt why line) = Verdict.Refused why line
+-- Nothing is refused where the records are taken, else the refusal and its line.
+abbrev pub checkSays : Taken → Answer
+checkSays (taken r) = good []
+checkSays (refusedAt why line) = refused why line []

@@ -7,13 +7,15 @@ use rules::MOST_SPEEDS;
 use rules::Refusal;
 use rules::Table;
 use rules::Verdict;
+ghost use mathlib.Core.List.{[]};
 ghost use mathlib.Core.Path.{_≡_};
 ghost use Prim.Native.Nat.{_≤_};
 ghost use Rattle.records.specs.Standing.{standingOf};
+ghost use Rattle.rules.specs.Answers.{verdictSays};
 ghost use Rattle.rules.specs.Refusals.{check};
 ghost use Rattle.rules.specs.TableText.{mostHolds, mostJobs, mostSpeeds};
-ghost use Rattle.checks.specs.Passing.{JobsStand, clockStands, holdsPassed, jobsPassed, lineAfter, passedOf, speedsPassed, speedsStand, verdictPassed};
-ghost use Rattle.checks.specs.Verdict.{verdictOf};
+ghost use Rattle.checks.specs.Passing.{JobsStand, clockStands, holdsPassed, jobsPassed, lineAfter, passedOf, passedSays, speedsPassed, speedsStand};
+ghost use Rattle.checks.specs.Verdict.{checkSays};
 
 // What the lines of a letter come to: the state behind them, or the refusal of the first bad one and its line.
 enum Passed {
@@ -103,7 +105,7 @@ fn check_holds(table: Table, before: Standing) -> Passed
 }
 
 fn verdict_of(passed: Passed) -> Verdict
-    ensures { λ r. ⌜ r ≡ verdictPassed passed ⌝ }
+    ensures { λ r. ⌜ verdictSays r [] ≡ passedSays passed ⌝ }
 {
     match passed {
         Passed::Through(_) => Verdict::Done,
@@ -113,7 +115,7 @@ fn verdict_of(passed: Passed) -> Verdict
 
 // Whether a table's records are valid and within its places, or else the first refusal, 2 to 7, and its line.
 pub fn check_table(table: Table) -> Verdict
-    ensures { λ r. ⌜ r ≡ verdictOf (check table) ⌝ }
+    ensures { λ r. ⌜ verdictSays r [] ≡ checkSays (check table) ⌝ }
 {
     let start = records::none_standing();
     let judgement = records::judge_clock(start, table.clock, table.budget);

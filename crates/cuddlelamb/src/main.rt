@@ -13,8 +13,8 @@ ghost use Rattle.cuddlelamb.specs.Program.{FrontOf, ListedAs};
 
 const MOST_READ: usize = 4096;
 
-// Room for every listing: none has more than 1,179 bytes, by `longest-listing` of listing/proofs/LongestListing.
-const MOST_LISTED: usize = 1200;
+// Room for every listing: none has more bytes, by `longest-listing` of listing/proofs/LongestListing, and one has as many.
+const MOST_LISTED: usize = 1118;
 
 // How many bytes the input had, or that a read failed.
 enum Input {

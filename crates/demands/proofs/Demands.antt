@@ -1,44 +1,63 @@
 -- The three demands, over the offered calls. Each line speaks of any answer that a call's promise allows, and so of the answer
--- that the call gives: that it gives one, for every text, table and buffer, is part of its proof. The reasons are in Refused,
--- Planned, Trips and Unplanned. Assumes nothing.
-use mathlib.Core.Bool.{Bool}
+-- that the call gives: that it gives one, for every text, table and buffer, is part of its proof. An answer is told as document
+-- 01 tells it, by number, line and values (rules/specs/Answers, boundary/specs/Told); two answers that say the same are the same
+-- (laws/proofs/Unique). The words of the statements are in specs/; `Promised` is a call's contract as a caller learns it, and where
+-- a line names a promise's record, that the contract is that record is said in the crate's proofs/Unique. The reasons are in
+-- Refused, Planned, Trips and Unplanned. Assumes nothing.
+use mathlib.Core.Bool.{Bool, true}
 use mathlib.Core.List.{List, [], _∷_}
-use mathlib.Core.Logic.{_⊎_}
+use mathlib.Core.Option.{some}
 use mathlib.Core.Path.{_≡_}
-use Prim.Native.Nat.{ℕ, _≤_, _<_}
+use Prim.Native.Nat.{ℕ, suc, _≤_, _<_}
 use contract.Lifetimes.{Lfts}
 use denote.Ref.{RefT, now, ptr}
 use lib.ListN.{length, take}
+use Rattle.boundary.proofs.Unique.{allocate-unique, costs-unique, list-unique, plan-unique, read-unique, write-unique}
+use Rattle.boundary.specs.Told as boundary
+use Rattle.boundary.specs.declared.CostsAnswer.{CostsAnswer}
+use Rattle.boundary.specs.declared.CyclesAnswer.{CyclesAnswer}
+use Rattle.boundary.specs.declared.PlanAnswer.{PlanAnswer}
+use Rattle.boundary.specs.declared.TableAnswer.{TableAnswer}
+use Rattle.boundary.specs.declared.TextAnswer.{TextAnswer}
 use Rattle.costs.proofs.Unique as costs
 use Rattle.cycles.proofs.Unique as cycles
-use Rattle.demands.proofs.Planned.{list-gives, plan-gives, plan-into-gives, plan-part-gives, read-gives, write-gives}
-use Rattle.demands.proofs.Refused.{IsRefusal, list-refused, plan-into-no-room, plan-into-refused, plan-into-refused-as, plan-part-refused, plan-refused}
-use Rattle.demands.proofs.Refused.{read-refused, read-refused-as, supplied-refused, write-refused, write-refused-as}
+use Rattle.demands.proofs.Planned.{clock-and-budget-gives, list-gives, plan-gives, plan-into-gives, read-gives, write-gives}
+use Rattle.demands.proofs.Planned.{cuddlelamb-list-gives, cuddlelamb-plan-gives, cuddlelamb-read-gives, cuddlelamb-write-gives}
+use Rattle.demands.proofs.Refused.{allocate-refuses, clock-and-budget-refuses, empty-text-refused, list-refuses, plan-into-refuses, plan-refuses, read-refuses, supplied-refuses, write-refuses}
+use Rattle.demands.proofs.Refused.{cuddlelamb-allocate-refuses, cuddlelamb-costs-refuses, cuddlelamb-list-refuses, cuddlelamb-plan-refuses, cuddlelamb-read-refuses, cuddlelamb-write-refuses}
 use Rattle.demands.proofs.Trips.{table-again, text-again}
-use Rattle.demands.proofs.Unplanned.{NoneInFront, unplanned-do-not-matter-to-plan-into}
-use Rattle.demands.specs.Plans.{ListedAs, PartBy, PlannedBy}
+use Rattle.demands.proofs.Unplanned.{unplanned-do-not-matter-to-cuddlelamb-list, unplanned-do-not-matter-to-cuddlelamb-plan, unplanned-do-not-matter-to-list, unplanned-do-not-matter-to-plan, unplanned-do-not-matter-to-plan-into}
+use Rattle.demands.specs.Plans.{AtFront, HasRoom, PartBy, PlannedBy}
+use Rattle.demands.specs.Refused.{AllocationRefused, CostsRefused, FirstLineRefused, IsRefusal, ListRefused, NothingLent, PlanRefused, ReadRefused, Refuses, WriteRefused}
 use Rattle.demands.specs.Trips.{SameTable, SameText}
-use Rattle.demands.specs.Unplanned.{SameOutside}
+use Rattle.demands.specs.Unplanned.{NoneInFront, SameListing, SameOutside, SamePart, TextsAgree, frontOf}
+use Rattle.front.proofs.FieldsHeld.{moved-behind-the-letter, moved-refused, moved-to-the-next-field, next-answers-the-field, next-answers-the-letter, next-refused}
+use Rattle.front.proofs.FieldsHeld.{next-refuses-another-kind, next-refuses-without-a-line-feed, take-answers-the-field, take-answers-the-letter, take-refused}
+use Rattle.front.proofs.LinesCounted.{take-counted, walked-lines-counted}
 use Rattle.front.proofs.Unique as front
-use Rattle.front.specs.Reading.{Moved, Next, Placed, Started}
+use Rattle.front.specs.ClockLine.{clockLineSays}
+use Rattle.front.specs.Reading.{Moved, Next, Placed, Started, Took, firstPlace}
+use Rattle.front.specs.Walked.{LineCounted, ReaderTakes, kindAt, otherKindAt}
 use Rattle.front.specs.declared.ClockLine.{ClockLine}
 use Rattle.front.specs.declared.Kind.{Kind}
 use Rattle.front.specs.declared.Reader.{Reader}
-use Rattle.laws.proofs.Demand3.{Agree, NoneAsksInside, outOf}
-use Rattle.laws.proofs.Trips.{WithinPlaces}
+use Rattle.handing.proofs.Unique.{hand-back-unique}
+use Rattle.handing.specs.Promises.{HandedBack}
+use Rattle.laws.specs.Demand3.{NonePlanned, outOf}
 use Rattle.listing.proofs.Unique as listing
+use Rattle.planner.proofs.Together.{plan-into-then-hand-back, refused-hands-back-nothing}
 use Rattle.planner.proofs.Unique as planner
-use Rattle.planner.specs.Promises.{PartPromised, PlannedAs}
+use Rattle.planner.specs.Promises.{PlannedAs, Together}
 use Rattle.planner.specs.declared.Planned.{Planned}
 use Rattle.reader.proofs.Unique as reader
-use Rattle.rules.specs.Listing.{listingOf}
-use Rattle.rules.specs.Answers.{allocatedSays, suppliedSays}
+use Rattle.rules.specs.Answers.{allocatedSays, decisionSays, fieldSays, good, readingSays, refused, suppliedSays, writtenSays}
 use Rattle.rules.specs.Costs.{suppliedCosts}
 use Rattle.rules.specs.Cycles.{allocation}
-use Rattle.rules.specs.Plan.{fatesOf, numbersOf, planOf, planning}
-use Rattle.rules.specs.Refusals.{check, read, refusedAt, taken}
-use Rattle.rules.specs.TableText.{Records, mostJobs, noRecords, padded, recordsOf, tableOf, textOf}
-use Rattle.rules.specs.Valid.{Valid}
+use Rattle.rules.specs.Listing.{listingOf}
+use Rattle.rules.specs.Lists.{Each}
+use Rattle.rules.specs.Refusals.{read, taken}
+use Rattle.rules.specs.TableText.{Records, isNumber, linesOf, noRecords, numberIn, recordsOf, tableOf, textOf}
+use Rattle.rules.specs.Valid.{Valid, WithinPlaces}
 use Rattle.rules.specs.declared.Allocated.{Allocated}
 use Rattle.rules.specs.declared.Decision.{Decision}
 use Rattle.rules.specs.declared.Field.{Field}
@@ -48,90 +67,193 @@ use Rattle.rules.specs.declared.Supplied.{Supplied}
 use Rattle.rules.specs.declared.Table.{Table}
 use Rattle.rules.specs.declared.Verdict.{Verdict}
 use Rattle.rules.specs.declared.Written.{Written}
+use Rattle.text.specs.FieldPlaces.{fieldAnswer, fieldAt, fieldsAt, letterOf, placeAt, placeBehind}
+use Rattle.text.specs.Fields.{FieldsTold, mostLine, takenSays}
 use Rattle.text.specs.declared.Cursor.{Cursor}
+use Rattle.text.specs.declared.Taken.{Taken}
 use Rattle.writer.proofs.Unique as writer
 
 -- DEMAND 1. "A refusal gives its number and line, hands back an empty plan, and every lent buffer still holds what it held."
--- Which number and line: those that the rules refuse with. A buffer that is too small comes before the text.
+-- Each line with `Refuses`: WHEN the rules refuse, and with which number and line (`..Refused`, in specs/Refused); what the call
+-- answers, there and nowhere else; the values that it then hands back; and what the lent buffers, or the table handed back, then
+-- hold.
 
-pub refused-as-read : (l : Lfts 1) (text : RefT (List ℕ)) (r : Reading) (why : Refusal) (line : ℕ)
-    → reader.Promised l text r → read (text .now) ≡ refusedAt why line
-    → r ≡ record { verdict = Verdict.Refused why line; table = tableOf noRecords }
-refused-as-read = read-refused-as
-
-pub refused-as-checked : (l : Lfts 1) (t : Table) (out after : RefT (List ℕ)) (w : Written) (why : Refusal) (line : ℕ)
-    → writer.Promised l t out w after → check t ≡ refusedAt why line → w ≡ Written.Refused why line
-refused-as-checked = write-refused-as
-
-pub refused-as-planned : (l : Lfts 3) (text order fates order′ fates′ : RefT (List ℕ)) (d : Decision) (why : Refusal) (line : ℕ)
-    → planner.Promised l text order fates d order′ fates′ → mostJobs ≤ length (order .now) → mostJobs ≤ length (fates .now)
-    → read (text .now) ≡ refusedAt why line → d ≡ Decision.Refused why line
-refused-as-planned = plan-into-refused-as
-
-pub refused-for-room : (l : Lfts 3) (text order fates order′ fates′ : RefT (List ℕ)) (d : Decision)
+pub refused-by-plan-into : (l : Lfts 3) (text order fates order′ fates′ : RefT (List ℕ)) (d : Decision)
     → planner.Promised l text order fates d order′ fates′
-    → (length (order .now) < mostJobs) ⊎ (length (fates .now) < mostJobs) → d ≡ Decision.Refused Refusal.Room 0
-refused-for-room = plan-into-no-room
+    → Refuses (PlanRefused (text .now) (order .now) (fates .now)) (decisionSays d) (0 ∷ 0 ∷ 0 ∷ [])
+    ((order′ .now ≡ order .now) × (fates′ .now ≡ fates .now))
+refused-by-plan-into = plan-into-refuses
 
-pub read-hands-back-nothing : (l : Lfts 1) (text : RefT (List ℕ)) (r : Reading) (why : Refusal) (line : ℕ)
-    → reader.Promised l text r → r .verdict ≡ Verdict.Refused why line → r .table ≡ tableOf noRecords
-read-hands-back-nothing = read-refused
+pub refused-by-plan : (text order fates : List ℕ) (begin : ℕ × ℕ) (r : Planned) (fates′ : List ℕ)
+    → PlannedAs text order fates begin r fates′
+    → Refuses (PlanRefused text order fates) (decisionSays (r .decision)) (0 ∷ 0 ∷ 0 ∷ [])
+    ((now (r .plan) ≡ []) × (fates′ ≡ fates))
+refused-by-plan = plan-refuses
 
-pub write-changes-nothing : (l : Lfts 1) (t : Table) (out after : RefT (List ℕ)) (why : Refusal) (line : ℕ)
-    → writer.Promised l t out (Written.Refused why line) after → after .now ≡ out .now
-write-changes-nothing = write-refused
+pub refused-by-hand-back : (order : List ℕ) (begin : ℕ × ℕ) (why : Refusal) (line : ℕ) (part : List ℕ) (at : ℕ × ℕ)
+    → HandedBack order begin (Decision.Refused why line) part at → part ≡ []
+refused-by-hand-back = refused-hands-back-nothing
 
-pub plan-into-changes-nothing : (l : Lfts 3) (text order fates order′ fates′ : RefT (List ℕ)) (why : Refusal) (line : ℕ)
-    → planner.Promised l text order fates (Decision.Refused why line) order′ fates′
-    → (order′ .now ≡ order .now) × (fates′ .now ≡ fates .now)
-plan-into-changes-nothing = plan-into-refused
+pub refused-by-list : (l : Lfts 2) (text out after : RefT (List ℕ)) (w : Written) → listing.Promised l text out w after
+    → Refuses (ListRefused (text .now) (out .now)) (writtenSays w) (0 ∷ []) (after .now ≡ out .now)
+refused-by-list = list-refuses
 
-pub plan-hands-back-nothing : (text order fates : List ℕ) (begin : ℕ × ℕ) (r : Planned) (fates′ : List ℕ) (why : Refusal)
-    (line : ℕ) → PlannedAs text order fates begin r fates′ → r .decision ≡ Decision.Refused why line
-    → (now (r .plan) ≡ []) × (fates′ ≡ fates)
-plan-hands-back-nothing = plan-refused
+pub refused-by-write : (l : Lfts 1) (t : Table) (out after : RefT (List ℕ)) (w : Written) → writer.Promised l t out w after
+    → Refuses (WriteRefused t (out .now)) (writtenSays w) (0 ∷ []) (after .now ≡ out .now)
+refused-by-write = write-refuses
 
-pub plan-part-hands-back-nothing : (text order fates : List ℕ) (begin : ℕ × ℕ) (part : List ℕ) (at : ℕ × ℕ) (fates′ : List ℕ)
-    → PartPromised text order fates begin part at fates′ → IsRefusal (planning text order fates .answer)
-    → (part ≡ []) × (fates′ ≡ fates)
-plan-part-hands-back-nothing = plan-part-refused
+pub refused-by-read : (l : Lfts 1) (text : RefT (List ℕ)) (r : Reading) → reader.Promised l text r
+    → Refuses (ReadRefused (text .now)) (readingSays r .answer) [] (r .table ≡ tableOf noRecords)
+refused-by-read = read-refuses
 
-pub list-changes-nothing : (l : Lfts 2) (text out after : RefT (List ℕ)) (why : Refusal) (line : ℕ)
-    → listing.Promised l text out (Written.Refused why line) after
-    → (after .now ≡ out .now) × (Written.Refused why line ≡ Written.Refused Refusal.Room 0)
-list-changes-nothing = list-refused
+pub refused-by-clock-and-budget : (l : Lfts 1) (text : RefT (List ℕ)) (r : ClockLine) → front.Promised l text r
+    → Refuses (FirstLineRefused (text .now)) (clockLineSays r) [] NothingLent
+refused-by-clock-and-budget = clock-and-budget-refuses
 
-pub supplied-hands-back-zeros : (model : ℕ) (r : Supplied) (why : Refusal) (line : ℕ) → costs.Promised model r
-    → r .verdict ≡ Verdict.Refused why line → r .costs ≡ 0 ∷ 0 ∷ 0 ∷ 0 ∷ 0 ∷ 0 ∷ 0 ∷ []
-supplied-hands-back-zeros = supplied-refused
+pub empty-text-by-clock-and-budget : (l : Lfts 1) (text : RefT (List ℕ)) (r : ClockLine) → front.Promised l text r
+    → text .now ≡ [] → r ≡ ClockLine.Refused Refusal.Order 1
+empty-text-by-clock-and-budget = empty-text-refused
+
+-- a field is refused 1, with the line that the reader stands in, and the reader stays there; when it is refused: below,
+-- `next-by-the-rules` and the lines behind it
+pub refused-by-next : (reader : Reader) (kind : Kind) (r : Field) → Next reader kind r → IsRefusal (fieldSays r)
+    → fieldSays r ≡ refused Refusal.Shape (reader .place .line) []
+refused-by-next = next-refused
+
+pub refused-by-moved : (reader : Reader) (kind : Kind) (r : Field) → Next reader kind r → IsRefusal (fieldSays r) → (s : Reader)
+    → Moved reader kind s → s ≡ reader
+refused-by-moved = moved-refused
+
+pub refused-by-take : (text : List ℕ) (at : Cursor) (kind : Kind) (r : Taken) → Took text at kind r
+    → IsRefusal (fieldSays (r .field)) → takenSays r ≡ record { says = refused Refusal.Shape (at .line) []; next = at }
+refused-by-take = take-refused
+
+pub refused-by-allocate : (mean variance assurance : ℕ) (r : Allocated) → cycles.Promised mean variance assurance r
+    → Refuses (AllocationRefused mean variance assurance) (allocatedSays r) (0 ∷ []) NothingLent
+refused-by-allocate = allocate-refuses
+
+pub refused-by-supplied : (model : ℕ) (r : Supplied) → costs.Promised model r
+    → Refuses (CostsRefused model) (suppliedSays r) (0 ∷ 0 ∷ 0 ∷ 0 ∷ 0 ∷ 0 ∷ 0 ∷ []) NothingLent
+refused-by-supplied = supplied-refuses
+
+-- the six calls for C and Rust
+
+pub refused-by-cuddlelamb-plan : (text order fates order′ fates′ : List ℕ) (r : PlanAnswer)
+    → boundary.PlannedAs text order fates r order′ fates′
+    → Refuses (PlanRefused text order fates) (boundary.planSays r) (0 ∷ 0 ∷ 0 ∷ []) ((order′ ≡ order) × (fates′ ≡ fates))
+refused-by-cuddlelamb-plan = cuddlelamb-plan-refuses
+
+pub refused-by-cuddlelamb-list : (text out after : List ℕ) (r : TextAnswer) → boundary.ListedAs text out r after
+    → Refuses (ListRefused text out) (boundary.textSays r) (0 ∷ []) (after ≡ out)
+refused-by-cuddlelamb-list = cuddlelamb-list-refuses
+
+pub refused-by-cuddlelamb-write : (t : Table) (out after : List ℕ) (r : TextAnswer) → boundary.WrittenAs t out r after
+    → Refuses (WriteRefused t out) (boundary.textSays r) (0 ∷ []) (after ≡ out)
+refused-by-cuddlelamb-write = cuddlelamb-write-refuses
+
+pub refused-by-cuddlelamb-read : (text : List ℕ) (r : TableAnswer) → boundary.ReadAs text r
+    → Refuses (ReadRefused text) (boundary.tableSays r) [] (r .table ≡ tableOf noRecords)
+refused-by-cuddlelamb-read = cuddlelamb-read-refuses
+
+pub refused-by-cuddlelamb-allocate : (mean variance assurance : ℕ) (r : CyclesAnswer)
+    → boundary.AllocatedAs mean variance assurance r
+    → Refuses (AllocationRefused mean variance assurance) (boundary.cyclesSays r) (0 ∷ []) NothingLent
+refused-by-cuddlelamb-allocate = cuddlelamb-allocate-refuses
+
+pub refused-by-cuddlelamb-costs : (model : ℕ) (r : CostsAnswer) → boundary.CostsAs model r
+    → Refuses (CostsRefused model) (boundary.costsSays r) (0 ∷ 0 ∷ 0 ∷ 0 ∷ 0 ∷ 0 ∷ 0 ∷ []) NothingLent
+refused-by-cuddlelamb-costs = cuddlelamb-costs-refuses
 
 -- DEMAND 2. "Plan, fates, speed and energy are those that the rules of document 01 give, no others."
 
 pub plan-into-by-the-rules : (l : Lfts 3) (text order fates order′ fates′ : RefT (List ℕ)) (d : Decision) (t : Records)
-    → planner.Promised l text order fates d order′ fates′ → read (text .now) ≡ taken t
-    → mostJobs ≤ length (order .now) → mostJobs ≤ length (fates .now)
-    → PlannedBy t (order .now) (fates .now) d (order′ .now) (fates′ .now)
+    → planner.Promised l text order fates d order′ fates′ → read (text .now) ≡ taken t → HasRoom (order .now) (fates .now)
+    → PlannedBy t (order .now) (fates .now) (decisionSays d) (order′ .now) (fates′ .now)
 plan-into-by-the-rules = plan-into-gives
 
 pub plan-by-the-rules : (text order fates : List ℕ) (begin : ℕ × ℕ) (r : Planned) (fates′ : List ℕ) (t : Records)
-    → PlannedAs text order fates begin r fates′ → read text ≡ taken t → mostJobs ≤ length order → mostJobs ≤ length fates
-    → PartBy t (length fates) r (now (r .plan)) fates′
+    → PlannedAs text order fates begin r fates′ → read text ≡ taken t → HasRoom order fates
+    → PartBy t fates (decisionSays (r .decision)) (now (r .plan)) fates′
 plan-by-the-rules = plan-gives
 
-pub plan-part-by-the-rules : (text order fates : List ℕ) (begin : ℕ × ℕ) (part : List ℕ) (at : ℕ × ℕ) (fates′ : List ℕ)
-    (t : Records) → PartPromised text order fates begin part at fates′ → read text ≡ taken t → mostJobs ≤ length order
-    → mostJobs ≤ length fates
-    → (part ≡ numbersOf (planOf t .jobs)) × (fates′ ≡ padded (length fates) 0 (fatesOf (planOf t .fates)))
-plan-part-by-the-rules = plan-part-gives
+-- `plan_into` and then `hand_back` of the buffer that it left: the part, and behind it every place as `plan_into` left it
+pub every-place-by-the-rules : (l : Lfts 3) (text order fates order′ fates′ : RefT (List ℕ)) (d : Decision) (begin at : ℕ × ℕ)
+    (part : List ℕ) → planner.Promised l text order fates d order′ fates′ → HandedBack (order′ .now) begin d part at
+    → Together (text .now) (order .now) (fates .now) begin (order′ .now) part at
+every-place-by-the-rules = plan-into-then-hand-back
+
+pub list-by-the-rules : (l : Lfts 2) (text out after : RefT (List ℕ)) (w : Written) → listing.Promised l text out w after
+    → length (listingOf (text .now)) ≤ length (out .now)
+    → AtFront (listingOf (text .now)) (out .now) (writtenSays w) (after .now)
+list-by-the-rules = list-gives
+
+pub valid-table-is-written : (l : Lfts 1) (t : Table) (out after : RefT (List ℕ)) (w : Written) → writer.Promised l t out w after
+    → WithinPlaces t → Valid (recordsOf t) → length (textOf (recordsOf t)) ≤ length (out .now)
+    → AtFront (textOf (recordsOf t)) (out .now) (writtenSays w) (after .now)
+valid-table-is-written = write-gives
 
 pub read-by-the-rules : (l : Lfts 1) (text : RefT (List ℕ)) (r : Reading) (t : Records) → reader.Promised l text r
     → read (text .now) ≡ taken t → r ≡ record { verdict = Verdict.Done; table = tableOf t }
 read-by-the-rules = read-gives
 
-pub valid-table-is-written : (l : Lfts 1) (t : Table) (out after : RefT (List ℕ)) (w : Written) → writer.Promised l t out w after
-    → WithinPlaces t → Valid (recordsOf t) → length (textOf (recordsOf t)) ≤ length (out .now)
-    → w ≡ Written.Length (length (textOf (recordsOf t)))
-valid-table-is-written = write-gives
+pub clock-and-budget-by-the-rules : (l : Lfts 1) (text : RefT (List ℕ)) (r : ClockLine) (t : Records) → front.Promised l text r
+    → read (text .now) ≡ taken t → r ≡ ClockLine.Clock (t .clock) (t .budget)
+clock-and-budget-by-the-rules = clock-and-budget-gives
+
+-- "a field is either a number or the refusal of its line", by any reader that stands at its place: field k of line l, asked for as
+-- what it is, a number with a tab behind it or the last of its line, or as what it is not; the line's letter; and the last field
+-- of a text without a line feed at the end
+pub next-by-the-rules : {text : RefT (List ℕ)} {reader : Reader} (l : ℕ) → 1 ≤ l → l < length (linesOf (now text)) → (k : ℕ)
+    → k < length (fieldsAt (now text) l) → Started text (placeAt (now text) l k) reader → {r : Field}
+    → Next reader (kindAt (now text) l k) r → fieldSays r ≡ fieldAnswer l (numberIn (fieldAt (now text) l k))
+next-by-the-rules = next-answers-the-field
+
+pub another-kind-refused-by-next : {text : RefT (List ℕ)} {reader : Reader} (l : ℕ) → 1 ≤ l → l < length (linesOf (now text))
+    → (k : ℕ) → k < length (fieldsAt (now text) l) → Started text (placeAt (now text) l k) reader → {r : Field}
+    → Next reader (otherKindAt (now text) l k) r → fieldSays r ≡ refused Refusal.Shape l []
+another-kind-refused-by-next = next-refuses-another-kind
+
+pub letter-by-the-rules : {text : RefT (List ℕ)} {reader : Reader} (l : ℕ) → 1 ≤ l → l < length (linesOf (now text))
+    → Started text (placeAt (now text) l 0) reader → {r : Field} → Next reader Kind.Letter r
+    → fieldSays r ≡ fieldAnswer l (letterOf (now text) l)
+letter-by-the-rules = next-answers-the-letter
+
+pub no-line-feed-refused-by-next : {text : RefT (List ℕ)} {reader : Reader} (l : ℕ) → 1 ≤ l → l ≡ length (linesOf (now text))
+    → (k : ℕ) → suc k ≡ length (fieldsAt (now text) l) → Started text (placeAt (now text) l k) reader → {r : Field}
+    → Next reader Kind.Last r → fieldSays r ≡ refused Refusal.Shape l []
+no-line-feed-refused-by-next = next-refuses-without-a-line-feed
+
+-- "the reading place moves on with each field taken": to the next field, or to the first of the next line
+pub moved-by-the-rules : {text : RefT (List ℕ)} {reader : Reader} (l : ℕ) → 1 ≤ l → l < length (linesOf (now text)) → (k : ℕ)
+    → k < length (fieldsAt (now text) l) → Started text (placeAt (now text) l k) reader → {r : Reader}
+    → Moved reader (kindAt (now text) l k) r → isNumber (fieldAt (now text) l k) ≡ true → l < mostLine
+    → Started text (placeBehind (now text) l k) r
+moved-by-the-rules = moved-to-the-next-field
+
+pub moved-by-a-letter : {text : RefT (List ℕ)} {reader : Reader} (l : ℕ) → 1 ≤ l → l < length (linesOf (now text))
+    → Started text (placeAt (now text) l 0) reader → {r : Reader} (b : ℕ) → Moved reader Kind.Letter r
+    → letterOf (now text) l ≡ some b → Started text (placeAt (now text) l 1) r
+moved-by-a-letter = moved-behind-the-letter
+
+pub take-by-the-rules : (text : List ℕ) (l : ℕ) → 1 ≤ l → l < length (linesOf text) → (k : ℕ) → k < length (fieldsAt text l)
+    → {r : Taken} → Took text (placeAt text l k) (kindAt text l k) r
+    → fieldSays (r .field) ≡ fieldAnswer l (numberIn (fieldAt text l k))
+take-by-the-rules = take-answers-the-field
+
+pub letter-taken-by-the-rules : (text : List ℕ) (l : ℕ) → 1 ≤ l → l < length (linesOf text) → {r : Taken}
+    → Took text (placeAt text l 0) Kind.Letter r → fieldSays (r .field) ≡ fieldAnswer l (letterOf text l)
+letter-taken-by-the-rules = take-answers-the-letter
+
+-- walked from the start, field by field, the reader's line is one more than the line feeds before it; every text that a machine
+-- holds has at most so many bytes
+pub lines-by-the-rules : {text : RefT (List ℕ)} {reader : Reader} {kinds : List Kind} {ts : List FieldsTold}
+    → length (now text) ≤ mostLine → Started text firstPlace reader → ReaderTakes reader kinds ts
+    → Each (λ (told : FieldsTold). LineCounted (now text) (told .next)) ts
+lines-by-the-rules = walked-lines-counted
+
+pub lines-taken-by-the-rules : (text : List ℕ) → length text ≤ mostLine → (at : Cursor) → LineCounted text at → (kind : Kind)
+    {r : Taken} → Took text at kind r → LineCounted text (r .next)
+lines-taken-by-the-rules = take-counted
 
 pub allocate-by-the-rules : (mean variance assurance : ℕ) (r : Allocated) → cycles.Promised mean variance assurance r
     → allocatedSays r ≡ allocation mean variance assurance
@@ -140,9 +262,33 @@ allocate-by-the-rules mean variance assurance r promise = promise
 pub supplied-by-the-rules : (model : ℕ) (r : Supplied) → costs.Promised model r → suppliedSays r ≡ suppliedCosts model
 supplied-by-the-rules model r promise = promise
 
-pub list-by-the-rules : (l : Lfts 2) (text out after : RefT (List ℕ)) (w : Written) → listing.Promised l text out w after
-    → length (listingOf (text .now)) ≤ length (out .now) → ListedAs (listingOf (text .now)) (out .now) (after .now) w
-list-by-the-rules = list-gives
+-- the six calls for C and Rust
+
+pub cuddlelamb-plan-by-the-rules : (text order fates order′ fates′ : List ℕ) (r : PlanAnswer) (t : Records)
+    → boundary.PlannedAs text order fates r order′ fates′ → read text ≡ taken t → HasRoom order fates
+    → PlannedBy t order fates (boundary.planSays r) order′ fates′
+cuddlelamb-plan-by-the-rules = cuddlelamb-plan-gives
+
+pub cuddlelamb-list-by-the-rules : (text out after : List ℕ) (r : TextAnswer) → boundary.ListedAs text out r after
+    → length (listingOf text) ≤ length out → AtFront (listingOf text) out (boundary.textSays r) after
+cuddlelamb-list-by-the-rules = cuddlelamb-list-gives
+
+pub valid-table-is-written-by-cuddlelamb-write : (t : Table) (out after : List ℕ) (r : TextAnswer)
+    → boundary.WrittenAs t out r after → WithinPlaces t → Valid (recordsOf t) → length (textOf (recordsOf t)) ≤ length out
+    → AtFront (textOf (recordsOf t)) out (boundary.textSays r) after
+valid-table-is-written-by-cuddlelamb-write = cuddlelamb-write-gives
+
+pub cuddlelamb-read-by-the-rules : (text : List ℕ) (r : TableAnswer) (t : Records) → boundary.ReadAs text r → read text ≡ taken t
+    → (boundary.tableSays r ≡ good []) × (r .table ≡ tableOf t)
+cuddlelamb-read-by-the-rules = cuddlelamb-read-gives
+
+pub cuddlelamb-allocate-by-the-rules : (mean variance assurance : ℕ) (r : CyclesAnswer)
+    → boundary.AllocatedAs mean variance assurance r → boundary.cyclesSays r ≡ allocation mean variance assurance
+cuddlelamb-allocate-by-the-rules mean variance assurance r promise = promise .answer
+
+pub cuddlelamb-costs-by-the-rules : (model : ℕ) (r : CostsAnswer) → boundary.CostsAs model r
+    → boundary.costsSays r ≡ suppliedCosts model
+cuddlelamb-costs-by-the-rules model r promise = promise .answer
 
 -- "With room to write, a valid text read and written again is the same text, and a valid table written and read again the same
 -- table."
@@ -177,10 +323,9 @@ pub one-answer-of-plan : (text order fates : List ℕ) (begin : ℕ × ℕ) (r s
     → (now (r .plan) ≡ now (s .plan)) × (ptr (r .plan) ≡ ptr (s .plan)) × (r .decision ≡ s .decision) × (b ≡ b′)
 one-answer-of-plan = planner.unique-plan
 
-pub one-answer-of-plan-part : (text order fates : List ℕ) (begin : ℕ × ℕ) (part part′ : List ℕ) (at at′ : ℕ × ℕ)
-    (b b′ : List ℕ) → PartPromised text order fates begin part at b → PartPromised text order fates begin part′ at′ b′
-    → (part ≡ part′) × (at ≡ at′) × (b ≡ b′)
-one-answer-of-plan-part = planner.unique-part
+pub one-answer-of-hand-back : (order : List ℕ) (begin : ℕ × ℕ) (d : Decision) (part part′ : List ℕ) (at at′ : ℕ × ℕ)
+    → HandedBack order begin d part at → HandedBack order begin d part′ at′ → (part ≡ part′) × (at ≡ at′)
+one-answer-of-hand-back = hand-back-unique
 
 pub one-answer-of-list : (l : Lfts 2) (text out a b : RefT (List ℕ)) (r s : Written) → listing.Promised l text out r a
     → listing.Promised l text out s b → (r ≡ s) × (a .now ≡ b .now)
@@ -193,7 +338,7 @@ one-answer-of-allocate = cycles.unique
 pub one-answer-of-supplied : (model : ℕ) (r s : Supplied) → costs.Promised model r → costs.Promised model s → r ≡ s
 one-answer-of-supplied = costs.unique
 
-pub one-answer-of-start : (text : RefT (List ℕ)) (r s : Reader) → Started text r → Started text s → r ≡ s
+pub one-answer-of-start : (text : RefT (List ℕ)) (at : Cursor) (r s : Reader) → Started text at r → Started text at s → r ≡ s
 one-answer-of-start = front.start-unique
 
 pub one-answer-of-next : (reader : Reader) (kind : Kind) (r s : Field) → Next reader kind r → Next reader kind s → r ≡ s
@@ -205,24 +350,81 @@ one-answer-of-moved = front.moved-unique
 pub one-answer-of-place : (reader : Reader) (r s : Cursor) → Placed reader r → Placed reader s → r ≡ s
 one-answer-of-place = front.place-unique
 
+pub one-answer-of-take : (text : List ℕ) (at : Cursor) (kind : Kind) (r s : Taken) → Took text at kind r
+    → Took text at kind s → r ≡ s
+one-answer-of-take = front.take-unique
+
 pub one-answer-of-clock-and-budget : (l : Lfts 1) (text : RefT (List ℕ)) (r s : ClockLine) → front.Promised l text r
     → front.Promised l text s → r ≡ s
 one-answer-of-clock-and-budget = front.clock-and-budget-unique
 
--- (The six calls for C and Rust tell these answers in numbers; their `unique` laws are in boundary/proofs/Unique.)
+-- the six calls for C and Rust
+
+pub one-answer-of-cuddlelamb-plan : (text order fates : List ℕ) (r s : PlanAnswer) (a b a′ b′ : List ℕ)
+    → boundary.PlannedAs text order fates r a b → boundary.PlannedAs text order fates s a′ b′ → (r ≡ s) × (a ≡ a′) × (b ≡ b′)
+one-answer-of-cuddlelamb-plan = plan-unique
+
+pub one-answer-of-cuddlelamb-list : (text out : List ℕ) (r s : TextAnswer) (a b : List ℕ) → boundary.ListedAs text out r a
+    → boundary.ListedAs text out s b → (r ≡ s) × (a ≡ b)
+one-answer-of-cuddlelamb-list = list-unique
+
+pub one-answer-of-cuddlelamb-write : (t : Table) (out : List ℕ) (r s : TextAnswer) (a b : List ℕ) → boundary.WrittenAs t out r a
+    → boundary.WrittenAs t out s b → (r ≡ s) × (a ≡ b)
+one-answer-of-cuddlelamb-write = write-unique
+
+pub one-answer-of-cuddlelamb-read : (text : List ℕ) (r s : TableAnswer) → boundary.ReadAs text r → boundary.ReadAs text s → r ≡ s
+one-answer-of-cuddlelamb-read = read-unique
+
+pub one-answer-of-cuddlelamb-allocate : (mean variance assurance : ℕ) (r s : CyclesAnswer)
+    → boundary.AllocatedAs mean variance assurance r → boundary.AllocatedAs mean variance assurance s → r ≡ s
+one-answer-of-cuddlelamb-allocate = allocate-unique
+
+pub one-answer-of-cuddlelamb-costs : (model : ℕ) (r s : CostsAnswer) → boundary.CostsAs model r → boundary.CostsAs model s → r ≡ s
+one-answer-of-cuddlelamb-costs = costs-unique
 
 -- DEMAND 3. "Jobs that are not planned don't matter." Two texts are read as tables that agree in every job outside a set of
--- numbers, in the resources those jobs hold, and in clock, budget, speeds and costs. In neither a job outside asks for what a
--- job inside holds, and neither order buffer holds a number of the set among the planned. Both calls have room, and the order
--- buffers are equally long. Then the decisions are one, the order buffers hold the same, and each job outside has one fate.
+-- numbers, in the resources those jobs hold, and in clock, budget, speeds and costs; in neither a job outside asks for what a job
+-- inside holds (`TextsAgree`). Both calls have room, and neither plan holds a number of the set. Then the answers are one, the
+-- plans handed back at the fronts of the order buffers are, and each job outside has one fate.
 
-pub unplanned-jobs-do-not-matter : (set : ℕ → Bool) (l : Lfts 3)
+pub unplanned-jobs-do-not-matter : (set : ℕ → Bool) (l l* : Lfts 3)
     (text text* order order* fates fates* order′ order*′ fates′ fates*′ : RefT (List ℕ)) (d e : Decision) (a b : Records)
-    → planner.Promised l text order fates d order′ fates′ → planner.Promised l text* order* fates* e order*′ fates*′
-    → read (text .now) ≡ taken a → read (text* .now) ≡ taken b
-    → mostJobs ≤ length (order .now) → length (order .now) ≡ length (order* .now)
-    → mostJobs ≤ length (fates .now) → mostJobs ≤ length (fates* .now)
-    → Agree set a b → NoneAsksInside set a → NoneAsksInside set b
-    → NoneInFront set (length (planOf a .jobs)) (order′ .now) → NoneInFront set (length (planOf b .jobs)) (order*′ .now)
-    → SameOutside (outOf set) a b d e (order′ .now) (order*′ .now) (fates′ .now) (fates*′ .now)
+    → planner.Promised l text order fates d order′ fates′ → planner.Promised l* text* order* fates* e order*′ fates*′
+    → TextsAgree set (text .now) (text* .now) a b → HasRoom (order .now) (fates .now) → HasRoom (order* .now) (fates* .now)
+    → NoneInFront set (frontOf (decisionSays d) (order′ .now)) → NoneInFront set (frontOf (decisionSays e) (order*′ .now))
+    → SameOutside (outOf set) a b (decisionSays d) (decisionSays e) (order′ .now) (order*′ .now) (fates′ .now) (fates*′ .now)
 unplanned-jobs-do-not-matter = unplanned-do-not-matter-to-plan-into
+
+pub unplanned-jobs-do-not-matter-to-plan : (set : ℕ → Bool) (text text* order order* fates fates* : List ℕ) (begin begin* : ℕ × ℕ)
+    (r s : Planned) (fates′ fates*′ : List ℕ) (a b : Records)
+    → PlannedAs text order fates begin r fates′ → PlannedAs text* order* fates* begin* s fates*′
+    → TextsAgree set text text* a b → HasRoom order fates → HasRoom order* fates*
+    → NoneInFront set (now (r .plan)) → NoneInFront set (now (s .plan))
+    → SamePart (outOf set) a b (decisionSays (r .decision)) (decisionSays (s .decision))
+    (now (r .plan)) (now (s .plan)) fates′ fates*′
+unplanned-jobs-do-not-matter-to-plan = unplanned-do-not-matter-to-plan
+
+pub unplanned-jobs-do-not-matter-to-cuddlelamb-plan : (set : ℕ → Bool)
+    (text text* order order* fates fates* order′ order*′ fates′ fates*′ : List ℕ) (r s : PlanAnswer) (a b : Records)
+    → boundary.PlannedAs text order fates r order′ fates′ → boundary.PlannedAs text* order* fates* s order*′ fates*′
+    → TextsAgree set text text* a b → HasRoom order fates → HasRoom order* fates*
+    → NoneInFront set (frontOf (boundary.planSays r) order′) → NoneInFront set (frontOf (boundary.planSays s) order*′)
+    → SameOutside (outOf set) a b (boundary.planSays r) (boundary.planSays s) order′ order*′ fates′ fates*′
+unplanned-jobs-do-not-matter-to-cuddlelamb-plan = unplanned-do-not-matter-to-cuddlelamb-plan
+
+-- The listings, at the fronts of their buffers: the P line and the O lines are the same bytes, and so are the X lines of the jobs
+-- outside.
+
+pub unplanned-jobs-do-not-matter-to-list : (set : ℕ → Bool) (l l* : Lfts 2) (text text* out out* after after* : RefT (List ℕ))
+    (w v : Written) (a b : Records) → listing.Promised l text out w after → listing.Promised l* text* out* v after*
+    → TextsAgree set (text .now) (text* .now) a b → NonePlanned set a → NonePlanned set b
+    → length (listingOf (text .now)) ≤ length (out .now) → length (listingOf (text* .now)) ≤ length (out* .now)
+    → SameListing (outOf set) a b (frontOf (writtenSays w) (after .now)) (frontOf (writtenSays v) (after* .now))
+unplanned-jobs-do-not-matter-to-list = unplanned-do-not-matter-to-list
+
+pub unplanned-jobs-do-not-matter-to-cuddlelamb-list : (set : ℕ → Bool) (text text* out out* after after* : List ℕ)
+    (r s : TextAnswer) (a b : Records) → boundary.ListedAs text out r after → boundary.ListedAs text* out* s after*
+    → TextsAgree set text text* a b → NonePlanned set a → NonePlanned set b
+    → length (listingOf text) ≤ length out → length (listingOf text*) ≤ length out*
+    → SameListing (outOf set) a b (frontOf (boundary.textSays r) after) (frontOf (boundary.textSays s) after*)
+unplanned-jobs-do-not-matter-to-cuddlelamb-list = unplanned-do-not-matter-to-cuddlelamb-list

@@ -1,4 +1,5 @@
 pub mod Trips
+pub mod RulesRefuse
 pub mod Refused
 pub mod Planned
 pub mod Unplanned

@@ -1,202 +1,129 @@
--- Demand 1 over the calls. A refusal's number is not 0, and a call that answers such a number leaves every lent buffer as it was
--- and hands back nothing. Each law speaks of any answer that the call's promise allows. Assumes nothing.
-use mathlib.Core.Bool.{Bool, true, false, cond, _||_}
+-- Demand 1 over the calls. Each call answers and leaves what a definition of the rules gives, and so it refuses what the rules
+-- refuse, as they do. Each law speaks of any answer that the call's promise allows. Assumes nothing.
 use mathlib.Core.List.{List, [], _∷_}
-use mathlib.Core.Logic.{_⊎_, ⊎-elim}
-use mathlib.Core.Path.{_≡_, refl, sym, ap, _∙_}
-use Prim.Native.Nat.{ℕ, _-_, _≤_, _<_}
+use mathlib.Core.Path.{_≡_, sym, ap, _∙_}
+use Prim.Native.Nat.{ℕ}
 use contract.Lifetimes.{Lfts}
 use denote.Ref.{RefT, now}
-use lib.Dec.{leb}
-use lib.ListN.{getD, length, take}
-use Rattle.costs.proofs.Unique.{Promised as Supplies}
-use Rattle.laws.proofs.Choices.{split}
-use Rattle.laws.proofs.Unique.{decision-unique, reading-unique, refusal-not-0, written-unique}
-use Rattle.listing.proofs.Unique.{Promised as Lists}
-use Rattle.planner.proofs.Decisions.{either-true, room, too-small}
-use Rattle.planner.proofs.Unique.{Promised as PlansInto}
-use Rattle.planner.specs.Promises.{PartPromised, PlannedAs}
+use lib.ListN.{length}
+use Rattle.boundary.specs.Told as boundary
+use Rattle.boundary.specs.declared.CostsAnswer.{CostsAnswer}
+use Rattle.boundary.specs.declared.CyclesAnswer.{CyclesAnswer}
+use Rattle.boundary.specs.declared.PlanAnswer.{PlanAnswer}
+use Rattle.boundary.specs.declared.TableAnswer.{TableAnswer as TableTold}
+use Rattle.boundary.specs.declared.TextAnswer.{TextAnswer}
+use Rattle.costs.proofs.Unique as costs
+use Rattle.cycles.proofs.Unique as cycles
+use Rattle.demands.proofs.RulesRefuse.{allocation-refuses, carried, costs-refuses, first-line-refuses, listing-refuses, planning-refuses, reading-refuses, writing-refuses}
+use Rattle.demands.specs.Refused.{AllocationRefused, CostsRefused, FirstLineRefused, ListRefused, NothingLent, PlanRefused, ReadRefused, Refuses, WriteRefused}
+use Rattle.front.proofs.FirstLine.{no-line}
+use Rattle.front.proofs.Unique as front
+use Rattle.front.proofs.WholeText.{clock-line-unique}
+use Rattle.front.specs.ClockLine.{clockLineSays}
+use Rattle.front.specs.declared.ClockLine.{ClockLine}
+use Rattle.listing.proofs.Unique as listing
+use Rattle.planner.proofs.Unique as planner
+use Rattle.planner.specs.Promises.{PlannedAs}
 use Rattle.planner.specs.declared.Planned.{Planned}
-use Rattle.reader.proofs.Unique.{Promised as Reads}
-use Rattle.rules.specs.Answers.{Answer, TableAnswer, good, verdictSays, writtenSays}
-use Rattle.rules.specs.Costs.{costRows, suppliedCosts}
-use Rattle.rules.specs.Lists.{within}
-use Rattle.rules.specs.Listing.{listing, listingOf}
-use Rattle.rules.specs.Plan.{AfterPlanning, leavesAll, leavesOf, leavesPlan, partOf, planning, tooSmall}
-use Rattle.rules.specs.Refusals.{AfterWriting, Taken, check, read, reading, refusedAt, refusedOut, tableAnswer, taken, writing, written, writtenOf}
-use Rattle.rules.specs.TableText.{mostJobs, noRecords, nth, tableOf}
+use Rattle.reader.proofs.Unique as reader
+use Rattle.rules.specs.Answers.{TableAnswer, allocatedSays, decisionSays, readingSays, suppliedSays, writtenSays}
+use Rattle.rules.specs.Plan.{AfterPlanning}
+use Rattle.rules.specs.Refusals.{AfterWriting}
+use Rattle.rules.specs.TableText.{noRecords, tableOf}
+use Rattle.rules.specs.declared.Allocated.{Allocated}
 use Rattle.rules.specs.declared.Decision.{Decision}
 use Rattle.rules.specs.declared.Reading.{Reading}
 use Rattle.rules.specs.declared.Refusal.{Refusal}
 use Rattle.rules.specs.declared.Supplied.{Supplied}
 use Rattle.rules.specs.declared.Table.{Table}
-use Rattle.rules.specs.declared.Verdict.{Verdict}
 use Rattle.rules.specs.declared.Written.{Written}
-use Rattle.writer.proofs.Unique.{Promised as Writes}
+use Rattle.writer.proofs.Unique as writer
 
--- an answer that is a refusal
-abbrev pub IsRefusal : Answer → Type 0
-IsRefusal a = a .number ≡ 0 → ⊥
+-- the calls of Rattle
 
--- what is left of a plan that is refused: nothing is planned, and both buffers hold what they held
-pub record NothingPlanned (order fates : List ℕ) (a : AfterPlanning) : Type 0 where
-  pub empty-plan : a .answer .values ≡ 0 ∷ 0 ∷ 0 ∷ []
-  pub order-held : a .order ≡ order
-  pub fates-held : a .fates ≡ fates
+pub plan-into-refuses : (lifetimes : Lfts 3) (text order fates order′ fates′ : RefT (List ℕ)) (d : Decision)
+    → planner.Promised lifetimes text order fates d order′ fates′
+    → Refuses (PlanRefused (text .now) (order .now) (fates .now)) (decisionSays d) (0 ∷ 0 ∷ 0 ∷ [])
+    ((order′ .now ≡ order .now) × (fates′ .now ≡ fates .now))
+plan-into-refuses lifetimes text order fates order′ fates′ d promise =
+    carried (planning-refuses (text .now) (order .now) (fates .now)) (ap (λ (a : AfterPlanning). a .answer) promise)
+    (λ held. (ap (λ (a : AfterPlanning). a .order) promise ∙ held .0, ap (λ (a : AfterPlanning). a .fates) promise ∙ held .1))
 
-leaves-all : (why : Refusal) (line : ℕ) (order fates : List ℕ) → NothingPlanned order fates (leavesAll why line order fates)
-unfolding leavesAll
-leaves-all why line order fates = record { empty-plan = refl; order-held = refl; fates-held = refl }
+pub plan-refuses : (text order fates : List ℕ) (begin : ℕ × ℕ) (r : Planned) (fates′ : List ℕ)
+    → PlannedAs text order fates begin r fates′
+    → Refuses (PlanRefused text order fates) (decisionSays (r .decision)) (0 ∷ 0 ∷ 0 ∷ [])
+    ((now (r .plan) ≡ []) × (fates′ ≡ fates))
+plan-refuses text order fates begin r fates′ promise =
+    carried (planning-refuses text order fates) (promise .decided)
+    (λ held. (promise .plan ∙ held .2, promise .fates-left ∙ held .1))
 
-taken-refused : (k : Taken) (order fates : List ℕ) → IsRefusal (leavesOf k order fates .answer)
-    → NothingPlanned order fates (leavesOf k order fates)
-unfolding leavesOf leavesPlan
-taken-refused (taken t) order fates refused = absurd (refused refl)
-taken-refused (refusedAt why line) order fates refused = leaves-all why line order fates
+pub list-refuses : (lifetimes : Lfts 2) (text out after : RefT (List ℕ)) (w : Written)
+    → listing.Promised lifetimes text out w after
+    → Refuses (ListRefused (text .now) (out .now)) (writtenSays w) (0 ∷ []) (after .now ≡ out .now)
+list-refuses lifetimes text out after w promise =
+    carried (listing-refuses (text .now) (out .now)) (ap (λ (a : AfterWriting). a .answer) promise)
+    (λ held. ap (λ (a : AfterWriting). a .out) promise ∙ held)
 
-refused-by : (small : Bool) (k : Taken) (order fates : List ℕ)
-    → IsRefusal (cond small (leavesAll Refusal.Room 0 order fates) (leavesOf k order fates) .answer)
-    → NothingPlanned order fates (cond small (leavesAll Refusal.Room 0 order fates) (leavesOf k order fates))
-refused-by true k order fates refused = leaves-all Refusal.Room 0 order fates
-refused-by false k order fates refused = taken-refused k order fates refused
+pub write-refuses : (lifetime : Lfts 1) (t : Table) (out after : RefT (List ℕ)) (w : Written)
+    → writer.Promised lifetime t out w after
+    → Refuses (WriteRefused t (out .now)) (writtenSays w) (0 ∷ []) (after .now ≡ out .now)
+write-refuses lifetime t out after w promise =
+    carried (writing-refuses t (out .now)) (promise .answer) (λ held. promise .buffer ∙ held)
 
-pub planning-refused : (text order fates : List ℕ) → IsRefusal (planning text order fates .answer)
-    → NothingPlanned order fates (planning text order fates)
-unfolding planning
-planning-refused text order fates refused =
-    refused-by (tooSmall order || tooSmall fates) (read text) order fates refused
+pub read-refuses : (lifetime : Lfts 1) (text : RefT (List ℕ)) (r : Reading) → reader.Promised lifetime text r
+    → Refuses (ReadRefused (text .now)) (readingSays r .answer) [] (r .table ≡ tableOf noRecords)
+read-refuses lifetime text r promise =
+    carried (reading-refuses (text .now)) (ap (λ (a : TableAnswer). a .answer) promise)
+    (λ held. ap (λ (a : TableAnswer). a .table) promise ∙ held)
 
--- `plan_into`
-pub plan-into-refused : (lifetimes : Lfts 3) (text order fates order′ fates′ : RefT (List ℕ)) (why : Refusal) (line : ℕ)
-    → PlansInto lifetimes text order fates (Decision.Refused why line) order′ fates′
-    → (order′ .now ≡ order .now) × (fates′ .now ≡ fates .now)
-plan-into-refused lifetimes text order fates order′ fates′ why line promise =
-    let held = planning-refused (text .now) (order .now) (fates .now)
-    (λ zero. refusal-not-0 why (ap (λ (a : AfterPlanning). a .answer .number) promise ∙ zero)) in
-    (ap (λ (a : AfterPlanning). a .order) promise ∙ held .order-held, ap (λ (a : AfterPlanning). a .fates) promise ∙ held .fates-held)
+pub clock-and-budget-refuses : (lifetime : Lfts 1) (text : RefT (List ℕ)) (r : ClockLine) → front.Promised lifetime text r
+    → Refuses (FirstLineRefused (text .now)) (clockLineSays r) [] NothingLent
+clock-and-budget-refuses lifetime text r promise = carried (first-line-refuses (text .now)) promise (λ held. held)
 
-part-of-nothing : (a : AfterPlanning) → a .answer .values ≡ 0 ∷ 0 ∷ 0 ∷ [] → partOf a ≡ []
-unfolding partOf
-part-of-nothing a e = ap (λ vs. take (nth vs 0) (a .order)) e
+pub empty-text-refused : (lifetime : Lfts 1) (text : RefT (List ℕ)) (r : ClockLine) → front.Promised lifetime text r
+    → text .now ≡ [] → r ≡ ClockLine.Refused Refusal.Order 1
+empty-text-refused lifetime text r promise e =
+    clock-line-unique r (ClockLine.Refused Refusal.Order 1) (promise ∙ sym (no-line (text .now) (ap length e)))
 
--- `plan`: the part is empty
-pub plan-refused : (text order fates : List ℕ) (begin : ℕ × ℕ) (r : Planned) (fates′ : List ℕ) (why : Refusal) (line : ℕ)
-    → PlannedAs text order fates begin r fates′ → r .decision ≡ Decision.Refused why line
-    → (now (r .plan) ≡ []) × (fates′ ≡ fates)
-plan-refused text order fates begin r fates′ why line promise e =
-    let held = planning-refused text order fates
-    (λ zero. refusal-not-0 why (ap (λ (a : Answer). a .number) (rw e at (promise .decided)) ∙ zero)) in
-    (promise .plan ∙ part-of-nothing (planning text order fates) (held .empty-plan), promise .fates-left ∙ held .fates-held)
+pub allocate-refuses : (mean variance assurance : ℕ) (r : Allocated) → cycles.Promised mean variance assurance r
+    → Refuses (AllocationRefused mean variance assurance) (allocatedSays r) (0 ∷ []) NothingLent
+allocate-refuses mean variance assurance r promise =
+    carried (allocation-refuses mean variance assurance) promise (λ held. held)
 
--- `plan_part`, where the rules refuse
-pub plan-part-refused : (text order fates : List ℕ) (begin : ℕ × ℕ) (part : List ℕ) (at : ℕ × ℕ) (fates′ : List ℕ)
-    → PartPromised text order fates begin part at fates′ → IsRefusal (planning text order fates .answer)
-    → (part ≡ []) × (fates′ ≡ fates)
-plan-part-refused text order fates begin part at fates′ promise refused =
-    let held = planning-refused text order fates refused in
-    (promise .plan ∙ part-of-nothing (planning text order fates) (held .empty-plan), promise .fates-left ∙ held .fates-held)
+pub supplied-refuses : (model : ℕ) (r : Supplied) → costs.Promised model r
+    → Refuses (CostsRefused model) (suppliedSays r) (0 ∷ 0 ∷ 0 ∷ 0 ∷ 0 ∷ 0 ∷ 0 ∷ []) NothingLent
+supplied-refuses model r promise = carried (costs-refuses model) promise (λ held. held)
 
-pub written-refused : (text out : List ℕ) → IsRefusal (written text out .answer)
-    → (written text out .out ≡ out) × (written text out .answer ≡ writtenSays (Written.Refused Refusal.Room 0))
-unfolding written refusedOut
-written-refused text out refused =
-    split (leb (length text) (length out)) (λ h. absurd (refused (rw h))) (λ h. (rw h, rw h))
+-- the calls for C and Rust
 
-check-refused : (k : Taken) (out : List ℕ) → IsRefusal (writtenOf k out .answer) → writtenOf k out .out ≡ out
-unfolding writtenOf refusedOut
-check-refused (taken r) out refused = written-refused _ out refused .0
-check-refused (refusedAt why line) out refused = refl
+pub cuddlelamb-plan-refuses : (text order fates order′ fates′ : List ℕ) (r : PlanAnswer)
+    → boundary.PlannedAs text order fates r order′ fates′
+    → Refuses (PlanRefused text order fates) (boundary.planSays r) (0 ∷ 0 ∷ 0 ∷ []) ((order′ ≡ order) × (fates′ ≡ fates))
+cuddlelamb-plan-refuses text order fates order′ fates′ r promise =
+    carried (planning-refuses text order fates) (promise .answer)
+    (λ held. (promise .order-left ∙ held .0, promise .fates-left ∙ held .1))
 
--- `write`
-pub write-refused : (lifetime : Lfts 1) (t : Table) (out after : RefT (List ℕ)) (why : Refusal) (line : ℕ)
-    → Writes lifetime t out (Written.Refused why line) after → after .now ≡ out .now
-unfolding writing
-write-refused lifetime t out after why line promise =
-    promise .buffer
-    ∙ check-refused (check t) (out .now)
-    (λ zero. refusal-not-0 why (ap (λ (a : Answer). a .number) (promise .answer) ∙ zero))
+pub cuddlelamb-list-refuses : (text out after : List ℕ) (r : TextAnswer) → boundary.ListedAs text out r after
+    → Refuses (ListRefused text out) (boundary.textSays r) (0 ∷ []) (after ≡ out)
+cuddlelamb-list-refuses text out after r promise =
+    carried (listing-refuses text out) (promise .answer) (λ held. promise .out-left ∙ held)
 
--- `list`: it refuses for room alone
-pub list-refused : (lifetimes : Lfts 2) (text out after : RefT (List ℕ)) (why : Refusal) (line : ℕ)
-    → Lists lifetimes text out (Written.Refused why line) after
-    → (after .now ≡ out .now) × (Written.Refused why line ≡ Written.Refused Refusal.Room 0)
-unfolding listing
-list-refused lifetimes text out after why line promise =
-    let held = written-refused (listingOf (text .now)) (out .now)
-    (λ zero. refusal-not-0 why (ap (λ (a : AfterWriting). a .answer .number) promise ∙ zero)) in (
-      ap (λ (a : AfterWriting). a .out) promise ∙ held .0,
-      written-unique (Written.Refused why line) (Written.Refused Refusal.Room 0)
-          (ap (λ (a : AfterWriting). a .answer) promise ∙ held .1),
-    )
+pub cuddlelamb-write-refuses : (t : Table) (out after : List ℕ) (r : TextAnswer) → boundary.WrittenAs t out r after
+    → Refuses (WriteRefused t out) (boundary.textSays r) (0 ∷ []) (after ≡ out)
+cuddlelamb-write-refuses t out after r promise =
+    carried (writing-refuses t out) (promise .answer) (λ held. promise .out-left ∙ held)
 
-read-by : (k : Taken) → IsRefusal (tableAnswer k .answer) → tableAnswer k .table ≡ tableOf noRecords
-unfolding tableAnswer
-read-by (taken r) refused = absurd (refused refl)
-read-by (refusedAt why line) refused = refl
+pub cuddlelamb-read-refuses : (text : List ℕ) (r : TableTold) → boundary.ReadAs text r
+    → Refuses (ReadRefused text) (boundary.tableSays r) [] (r .table ≡ tableOf noRecords)
+cuddlelamb-read-refuses text r promise =
+    carried (reading-refuses text) (promise .answer) (λ held. promise .table ∙ held)
 
--- `read`: a table without records
-pub read-refused : (lifetime : Lfts 1) (text : RefT (List ℕ)) (r : Reading) (why : Refusal) (line : ℕ)
-    → Reads lifetime text r → r .verdict ≡ Verdict.Refused why line → r .table ≡ tableOf noRecords
-unfolding reading
-read-refused lifetime text r why line promise e =
-    ap (λ (a : TableAnswer). a .table) promise
-    ∙ read-by (read (text .now))
-    (λ zero. refusal-not-0 why
-    (ap (λ (v : Verdict). verdictSays v [] .number) (sym e) ∙ ap (λ (a : TableAnswer). a .answer .number) promise ∙ zero))
+pub cuddlelamb-allocate-refuses : (mean variance assurance : ℕ) (r : CyclesAnswer)
+    → boundary.AllocatedAs mean variance assurance r
+    → Refuses (AllocationRefused mean variance assurance) (boundary.cyclesSays r) (0 ∷ []) NothingLent
+cuddlelamb-allocate-refuses mean variance assurance r promise =
+    carried (allocation-refuses mean variance assurance) (promise .answer) (λ held. held)
 
-supplied-by : (known : Bool) (a : Answer) (zeros : List ℕ) → a .number ≡ 0
-    → IsRefusal (cond known a (record { number = 9; line = 0; values = zeros }))
-    → cond known a (record { number = 9; line = 0; values = zeros }) .values ≡ zeros
-supplied-by true a zeros e refused = absurd (refused e)
-supplied-by false a zeros e refused = refl
-
--- `supplied`: seven zeros
-pub supplied-refused : (model : ℕ) (r : Supplied) (why : Refusal) (line : ℕ) → Supplies model r
-    → r .verdict ≡ Verdict.Refused why line → r .costs ≡ 0 ∷ 0 ∷ 0 ∷ 0 ∷ 0 ∷ 0 ∷ 0 ∷ []
-unfolding suppliedCosts
-supplied-refused model r why line promise e =
-    let says : verdictSays (Verdict.Refused why line) (r .costs) ≡ suppliedCosts model =
-    ap (λ v. verdictSays v (r .costs)) (sym e) ∙ promise in
-    ap (λ (a : Answer). a .values) says
-    ∙ supplied-by (within 1 3 model) (good (getD costRows (model - 1) [])) (0 ∷ 0 ∷ 0 ∷ 0 ∷ 0 ∷ 0 ∷ 0 ∷ []) refl
-    (λ zero. refusal-not-0 why (ap (λ (a : Answer). a .number) says ∙ zero))
-
--- WHICH refusal: that of the rules. A buffer that is too small comes before the text.
-
-decided-as : (lifetimes : Lfts 3) (text order fates order′ fates′ : RefT (List ℕ)) (d : Decision) (why : Refusal) (line : ℕ)
-    → PlansInto lifetimes text order fates d order′ fates′
-    → planning (text .now) (order .now) (fates .now) ≡ leavesAll why line (order .now) (fates .now)
-    → d ≡ Decision.Refused why line
-unfolding leavesAll
-decided-as lifetimes text order fates order′ fates′ d why line promise e =
-    decision-unique d (Decision.Refused why line) (ap (λ (a : AfterPlanning). a .answer) (promise ∙ e))
-
-pub plan-into-no-room : (lifetimes : Lfts 3) (text order fates order′ fates′ : RefT (List ℕ)) (d : Decision)
-    → PlansInto lifetimes text order fates d order′ fates′
-    → (length (order .now) < mostJobs) ⊎ (length (fates .now) < mostJobs) → d ≡ Decision.Refused Refusal.Room 0
-unfolding planning
-plan-into-no-room lifetimes text order fates order′ fates′ d promise small =
-    decided-as lifetimes text order fates order′ fates′ d Refusal.Room 0 promise
-    (⊎-elim (λ (h : length (order .now) < mostJobs). rw (too-small (order .now) h))
-    (λ (h : length (fates .now) < mostJobs). rw (too-small (fates .now) h) (rw (either-true (tooSmall (order .now))))) small)
-
-pub plan-into-refused-as : (lifetimes : Lfts 3) (text order fates order′ fates′ : RefT (List ℕ)) (d : Decision) (why : Refusal)
-    (line : ℕ) → PlansInto lifetimes text order fates d order′ fates′ → mostJobs ≤ length (order .now)
-    → mostJobs ≤ length (fates .now) → read (text .now) ≡ refusedAt why line → d ≡ Decision.Refused why line
-unfolding planning leavesOf
-plan-into-refused-as lifetimes text order fates order′ fates′ d why line promise h l e =
-    decided-as lifetimes text order fates order′ fates′ d why line promise
-    (rw (room (order .now) h) (rw (room (fates .now) l) (rw e)))
-
-pub read-refused-as : (lifetime : Lfts 1) (text : RefT (List ℕ)) (r : Reading) (why : Refusal) (line : ℕ)
-    → Reads lifetime text r → read (text .now) ≡ refusedAt why line
-    → r ≡ record { verdict = Verdict.Refused why line; table = tableOf noRecords }
-unfolding reading tableAnswer
-read-refused-as lifetime text r why line promise e =
-    reading-unique r (record { verdict = Verdict.Refused why line; table = tableOf noRecords }) (promise ∙ rw e)
-
-pub write-refused-as : (lifetime : Lfts 1) (t : Table) (out after : RefT (List ℕ)) (w : Written) (why : Refusal) (line : ℕ)
-    → Writes lifetime t out w after → check t ≡ refusedAt why line → w ≡ Written.Refused why line
-unfolding writing writtenOf refusedOut
-write-refused-as lifetime t out after w why line promise e =
-    written-unique w (Written.Refused why line) (promise .answer ∙ rw e)
+pub cuddlelamb-costs-refuses : (model : ℕ) (r : CostsAnswer) → boundary.CostsAs model r
+    → Refuses (CostsRefused model) (boundary.costsSays r) (0 ∷ 0 ∷ 0 ∷ 0 ∷ 0 ∷ 0 ∷ 0 ∷ []) NothingLent
+cuddlelamb-costs-refuses model r promise = carried (costs-refuses model) (promise .answer) (λ held. held)

@@ -1,36 +1,45 @@
--- Demand 3 over the calls: jobs that are not planned do not matter to what `plan_into` answers. Two texts are read as tables
--- that agree outside a set of job numbers; neither order buffer holds a number of the set. Then the decisions are one, the
--- order buffers hold the same, and each job outside has one fate. Assumes nothing.
+-- Demand 3 over the calls: jobs that are not planned do not matter to what the calls that plan and list answer. Two texts are
+-- read as tables that agree outside a set of job numbers, and neither plan has a number of the set: then the rules give one
+-- plan, and one fate to each job outside; and the calls answer, and leave in the buffers, what the rules give. Assumes nothing.
 use mathlib.Core.Bool.{Bool, true}
 use mathlib.Core.List.{List, [], _∷_, _++_, map}
 use mathlib.Core.Option.{none, some}
 use mathlib.Core.Path.{_≡_, refl, sym, ap, _∙_}
-use Prim.Native.Nat.{ℕ, zero, suc, _≤_, _<_}
+use Prim.Native.Nat.{ℕ, zero, suc, _-_, _≤_, _<_}
 use native.Mathlib.Omega.{arith}
 use borrow.Author.Tests.{eqb-true}
 use contract.Lifetimes.{Lfts}
-use denote.Ref.{RefT}
+use denote.Ref.{RefT, now}
 use lib.Dec.{eqb}
-use lib.ListN.{getD, length, length-map, take}
-use lib.Seq.{take-at}
-use Rattle.demands.proofs.Planned.{numbers-length, plan-into-gives}
-use Rattle.demands.specs.Unplanned.{SameOutside}
+use lib.ListN.{drop, getD, length, length-append, length-map, length-replicate, replicate, take}
+use lib.Seq.{take-append-seam}
+use Rattle.boundary.specs.Told as boundary
+use Rattle.boundary.specs.declared.PlanAnswer.{PlanAnswer}
+use Rattle.boundary.specs.declared.TextAnswer.{TextAnswer}
+use Rattle.demands.proofs.Planned.{cuddlelamb-list-gives, cuddlelamb-plan-gives, front-of-plan, list-gives, plan-gives, plan-into-gives}
+use Rattle.demands.specs.Plans.{AtFront, HasRoom, PlannedBy, decided}
+use Rattle.demands.specs.Unplanned.{NoneInFront, SameFates, SameListing, SameOutside, SamePart, TextsAgree, fateLines, frontOf}
 use Rattle.laws.proofs.Choices.{one-there, split}
-use Rattle.laws.proofs.Demand3.{Agree, Alike, NoneAsksInside, NonePlanned, outOf, unplanned-do-not-matter}
+use Rattle.laws.proofs.Demand3.{unplanned-do-not-matter}
 use Rattle.laws.proofs.Elements.{each-at-place}
 use Rattle.laws.proofs.Jobs.{Listed, jobs-listed}
-use Rattle.laws.proofs.Lookups.{each-always, each-unmap, find-keep}
-use Rattle.laws.proofs.Outside.{outerFated}
-use Rattle.plans.proofs.Leaving.{fates-planned}
+use Rattle.laws.proofs.Lookups.{each-always, each-unmap, find-keep, keep-agree}
 use Rattle.laws.proofs.Trips.{read-exactly}
-use Rattle.planner.proofs.Unique.{Promised as PlansInto}
-use Rattle.rules.specs.Lists.{Each, find, keep}
-use Rattle.rules.specs.Plan.{Fated, courseOf, fateIn, fateTold, fatesOf, numbersOf, planFrom, planOf, same}
-use Rattle.rules.specs.Refusals.{read, taken}
-use Rattle.rules.specs.TableText.{Records, mostJobs, noJob, padded}
+use Rattle.laws.specs.Demand3.{Alike, NonePlanned, outOf, outerFated}
+use Rattle.listing.proofs.Unique as listing
+use Rattle.planner.proofs.Unique as planner
+use Rattle.planner.specs.Promises.{PlannedAs}
+use Rattle.planner.specs.declared.Planned.{Planned}
+use Rattle.plans.proofs.Leaving.{fates-planned}
+use Rattle.rules.specs.Answers.{Answer, decisionSays, writtenSays}
+use Rattle.rules.specs.Listing.{linesFor, listingOf, orderLine, planLine, planLines, unplanned}
+use Rattle.rules.specs.Lists.{find, joined, keep}
+use Rattle.rules.specs.Plan.{Fated, courseOf, fateIn, fateTold, fatesOf, numbersOf, planFrom, planOf, runsOf, same}
+use Rattle.rules.specs.TableText.{Records, noJob, padded}
 use Rattle.rules.specs.Valid.{Valid}
 use Rattle.rules.specs.declared.Decision.{Decision}
 use Rattle.rules.specs.declared.Job.{Job}
+use Rattle.rules.specs.declared.Written.{Written}
 
 front-at : (xs ys : List ℕ) (i : ℕ) → i < length xs → getD (xs ++ ys) i 0 ≡ getD xs i 0
 front-at [] ys i h = absurd (omega arith)
@@ -74,6 +83,31 @@ fate-at t v places i h =
     (ap (fateOf (getD (t .jobs) i noJob .number)) (fates-are t)
     ∙ found-beside (fateIn t (courseOf t)) (t .jobs) (getD (t .jobs) i noJob) (each-at-place noJob (jobs-listed t v) i h))
 
+-- the plan's numbers stand at the front of the order buffer
+in-front : (t : Records) (order fates : List ℕ) (says : Answer) (order′ fates′ : List ℕ)
+    → PlannedBy t order fates says order′ fates′ → frontOf says order′ ≡ numbersOf (planOf t .jobs)
+in-front t order fates says order′ fates′ x =
+    ap (λ s. frontOf s order′) (x .answer) ∙ ap (take (length (planOf t .jobs))) (x .order-left) ∙ front-of-plan t (length order)
+
+-- and a text that was written, at the front of its buffer
+text-in-front : (text out : List ℕ) (says : Answer) (after : List ℕ) → AtFront text out says after → frontOf says after ≡ text
+text-in-front text out says after x =
+    ap (λ s. frontOf s after) (x .answer) ∙ ap (take (length text)) (x .out-left) ∙ take-append-seam text (drop (length text) out)
+
+-- what is padded to one length is padded alike
+as-long-padded : (ns : List ℕ) (n m : ℕ) → length (padded n 0 ns) ≡ length (padded m 0 ns) → padded n 0 ns ≡ padded m 0 ns
+as-long-padded ns n m e =
+    let rest : n - length ns ≡ m - length ns =
+    omega (
+      arith,
+      e,
+      length-append ns (replicate (n - length ns) 0),
+      length-append ns (replicate (m - length ns) 0),
+      length-replicate {A = ℕ} (n - length ns) 0,
+      length-replicate {A = ℕ} (m - length ns) 0,
+    ) in
+    ap (λ k. ns ++ replicate k 0) rest
+
 module _ (set : ℕ → Bool) where
   -- a fate outside is found among those outside
   outside-found : (n : ℕ) → outOf set n ≡ true → (is : List Fated)
@@ -83,57 +117,154 @@ module _ (set : ℕ → Bool) where
       (find-keep (λ (i : Fated). eqb n (i .job .number)) (outerFated (outOf set))
       (each-always is (λ i e. ap (outOf set) (sym (eqb-true n (i .job .number) e)) ∙ o)))
 
-  -- no number of the set stands in the front part of an order buffer
-  abbrev pub NoneInFront : ℕ → List ℕ → Type 0
-  NoneInFront count order = Each (λ n. outOf set n ≡ true) (take count order)
-
-  none-planned : (t : Records) (places : ℕ) → NoneInFront (length (planOf t .jobs)) (padded places 0 (numbersOf (planOf t .jobs)))
-      → NonePlanned set t
+  -- whose numbers are none of the set is nobody of the set
+  none-planned : (t : Records) → NoneInFront set (numbersOf (planOf t .jobs)) → NonePlanned set t
   unfolding numbersOf
-  none-planned t places e =
-      each-unmap (λ (j : Job). j .number) (planOf t .jobs)
-      (rw (take-at (numbersOf (planOf t .jobs)) _ (length (planOf t .jobs)) (numbers-length t)) at e)
+  none-planned t e = each-unmap (λ (j : Job). j .number) (planOf t .jobs) e
 
-  module _ (lifetimes : Lfts 3) (text text* order order* fates fates* order′ order*′ fates′ fates*′ : RefT (List ℕ))
-      (d e : Decision) (a b : Records) where
+  module _ (text text* : List ℕ) (a b : Records) (agree : TextsAgree set text text* a b) where
+    valid-first : Valid a
+    valid-first = read-exactly text a .0 (agree .read-first) .0
+
+    valid-second : Valid b
+    valid-second = read-exactly text* b .0 (agree .read-second) .0
+
+    -- the rules' plans, speeds, energies and fates outside
+    rules-alike : NonePlanned set a → NonePlanned set b → Alike (outOf set) a b
+    rules-alike first second =
+        unplanned-do-not-matter set a b valid-first valid-second
+        (agree .agree) (agree .first-asks) (agree .second-asks) first second
+
+    module _ (alike : Alike (outOf set) a b) where
+      same-decision : decided a ≡ decided b
+      same-decision = rw (alike .jobs, alike .speed, alike .energy)
+
+      same-fates : (places places* : ℕ)
+          → SameFates (outOf set) a b (padded places 0 (fatesOf (planOf a .fates))) (padded places* 0 (fatesOf (planOf b .fates)))
+      same-fates places places* i k h l same-number out =
+          fate-at a valid-first places i h
+          ∙ sym (outside-found _ out (planOf a .fates))
+          ∙ ap (fateOf (getD (a .jobs) i noJob .number)) (alike .fates)
+          ∙ outside-found _ out (planOf b .fates)
+          ∙ ap (λ n. fateOf n (planOf b .fates)) same-number
+          ∙ sym (fate-at b valid-second places* k l)
+
+      same-listing : SameListing (outOf set) a b (listingOf text) (listingOf text*)
+      unfolding listingOf linesFor planLines planLine
+      same-listing = record {
+        first = ap linesFor (agree .read-first);
+        second = ap linesFor (agree .read-second);
+        plan-line = rw (alike .jobs, alike .speed, alike .energy);
+        order-lines =
+            ap (λ clock. joined (orderLine clock (planOf a .speed .mhz)) (runsOf (planOf a .jobs))) (agree .agree .clock)
+            ∙ rw (alike .jobs, alike .speed);
+        fate-lines =
+            ap fateLines
+            (sym (kept-outside (planOf a .fates)) ∙ ap (keep unplanned) (alike .fates) ∙ kept-outside (planOf b .fates));
+      }
+        where
+          kept-outside : (is : List Fated)
+              → keep unplanned (keep (outerFated (outOf set)) is) ≡ keep (outerFated (outOf set)) (keep unplanned is)
+          kept-outside is = keep-agree (outerFated (outOf set)) unplanned unplanned (each-always is (λ i o. refl))
+
+    -- what any two calls that answer and leave the rules' plans give
+    same-outside : (order fates order′ fates′ order* fates* order*′ fates*′ : List ℕ) (says says* : Answer)
+        → PlannedBy a order fates says order′ fates′ → PlannedBy b order* fates* says* order*′ fates*′
+        → NoneInFront set (frontOf says order′) → NoneInFront set (frontOf says* order*′)
+        → SameOutside (outOf set) a b says says* order′ order*′ fates′ fates*′
+    same-outside order fates order′ fates′ order* fates* order*′ fates*′ says says* x y without without* =
+        let front = in-front a order fates says order′ fates′ x in
+        let front* = in-front b order* fates* says* order*′ fates*′ y in
+        let alike = rules-alike (none-planned a (rw front at without)) (none-planned b (rw front* at without*)) in
+        record {
+          answer = x .answer ∙ same-decision alike ∙ sym (y .answer);
+          front = front ∙ ap numbersOf (alike .jobs) ∙ sym front*;
+          whole = λ as-long. x .order-left
+              ∙ ap (λ js. padded (length order) 0 (numbersOf js)) (alike .jobs)
+              ∙ as-long-padded (numbersOf (planOf b .jobs)) (length order) (length order*)
+              (ap (λ js. length (padded (length order) 0 (numbersOf js))) (sym (alike .jobs))
+              ∙ ap length (sym (x .order-left)) ∙ as-long ∙ ap length (y .order-left))
+              ∙ sym (y .order-left);
+          fate = rw (x .fates-left) (rw (y .fates-left) (same-fates alike (length fates) (length fates*)));
+        }
+
+    -- the listings that stand at the fronts of two buffers
+    listed-same : (out after out* after* : List ℕ) (says says* : Answer) → NonePlanned set a → NonePlanned set b
+        → AtFront (listingOf text) out says after → AtFront (listingOf text*) out* says* after*
+        → SameListing (outOf set) a b (frontOf says after) (frontOf says* after*)
+    listed-same out after out* after* says says* without without* x y =
+        rw (text-in-front (listingOf text) out says after x) (rw (text-in-front (listingOf text*) out* says* after* y)
+        (same-listing (rules-alike without without*)))
+
+  module _ (lifetimes lifetimes* : Lfts 3)
+      (text text* order order* fates fates* order′ order*′ fates′ fates*′ : RefT (List ℕ)) (d e : Decision) (a b : Records) where
     -- Demand 3, over `plan_into`.
     pub unplanned-do-not-matter-to-plan-into :
-        PlansInto lifetimes text order fates d order′ fates′ → PlansInto lifetimes text* order* fates* e order*′ fates*′
-        → read (text .now) ≡ taken a → read (text* .now) ≡ taken b
-        → mostJobs ≤ length (order .now) → length (order .now) ≡ length (order* .now)
-        → mostJobs ≤ length (fates .now) → mostJobs ≤ length (fates* .now)
-        → Agree set a b → NoneAsksInside set a → NoneAsksInside set b
-        → NoneInFront (length (planOf a .jobs)) (order′ .now) → NoneInFront (length (planOf b .jobs)) (order*′ .now)
-        → SameOutside (outOf set) a b d e (order′ .now) (order*′ .now) (fates′ .now) (fates*′ .now)
-    unplanned-do-not-matter-to-plan-into p q read-a read-b room as-long fate-room fate-room* agree asks-a asks-b front-a front-b =
-        let valid-a = read-exactly (text .now) a .0 read-a .0 in
-        let valid-b = read-exactly (text* .now) b .0 read-b .0 in
-        let x = plan-into-gives lifetimes text order fates order′ fates′ d a p read-a room fate-room in
-        let y = plan-into-gives lifetimes text* order* fates* order*′ fates*′ e b q read-b (omega (arith, as-long)) fate-room* in
-        let alike : Alike (outOf set) a b =
-        unplanned-do-not-matter set a b valid-a valid-b agree asks-a asks-b
-        (none-planned a (length (order .now)) (rw (x .order-left) at front-a))
-        (none-planned b (length (order* .now)) (rw (y .order-left) at front-b)) in
+        planner.Promised lifetimes text order fates d order′ fates′
+        → planner.Promised lifetimes* text* order* fates* e order*′ fates*′
+        → TextsAgree set (text .now) (text* .now) a b → HasRoom (order .now) (fates .now) → HasRoom (order* .now) (fates* .now)
+        → NoneInFront set (frontOf (decisionSays d) (order′ .now)) → NoneInFront set (frontOf (decisionSays e) (order*′ .now))
+        → SameOutside (outOf set) a b (decisionSays d) (decisionSays e) (order′ .now) (order*′ .now) (fates′ .now) (fates*′ .now)
+    unplanned-do-not-matter-to-plan-into p q agree large large* =
+        same-outside (text .now) (text* .now) a b agree (order .now) (fates .now) (order′ .now) (fates′ .now)
+        (order* .now) (fates* .now) (order*′ .now) (fates*′ .now) (decisionSays d) (decisionSays e)
+        (plan-into-gives lifetimes text order fates order′ fates′ d a p (agree .read-first) large)
+        (plan-into-gives lifetimes* text* order* fates* order*′ fates*′ e b q (agree .read-second) large*)
+
+  module _ (text text* order order* fates fates* order′ order*′ fates′ fates*′ : List ℕ) (r s : PlanAnswer) (a b : Records) where
+    -- Demand 3, over `cuddlelamb_plan`.
+    pub unplanned-do-not-matter-to-cuddlelamb-plan :
+        boundary.PlannedAs text order fates r order′ fates′ → boundary.PlannedAs text* order* fates* s order*′ fates*′
+        → TextsAgree set text text* a b → HasRoom order fates → HasRoom order* fates*
+        → NoneInFront set (frontOf (boundary.planSays r) order′) → NoneInFront set (frontOf (boundary.planSays s) order*′)
+        → SameOutside (outOf set) a b (boundary.planSays r) (boundary.planSays s) order′ order*′ fates′ fates*′
+    unplanned-do-not-matter-to-cuddlelamb-plan p q agree large large* =
+        same-outside text text* a b agree order fates order′ fates′ order* fates* order*′ fates*′
+        (boundary.planSays r) (boundary.planSays s)
+        (cuddlelamb-plan-gives text order fates order′ fates′ r a p (agree .read-first) large)
+        (cuddlelamb-plan-gives text* order* fates* order*′ fates*′ s b q (agree .read-second) large*)
+
+  module _ (text text* order order* fates fates* : List ℕ) (begin begin* : ℕ × ℕ) (r s : Planned) (fates′ fates*′ : List ℕ)
+      (a b : Records) where
+    -- Demand 3, over `plan`.
+    pub unplanned-do-not-matter-to-plan :
+        PlannedAs text order fates begin r fates′ → PlannedAs text* order* fates* begin* s fates*′
+        → TextsAgree set text text* a b → HasRoom order fates → HasRoom order* fates*
+        → NoneInFront set (now (r .plan)) → NoneInFront set (now (s .plan))
+        → SamePart (outOf set) a b (decisionSays (r .decision)) (decisionSays (s .decision))
+        (now (r .plan)) (now (s .plan)) fates′ fates*′
+    unplanned-do-not-matter-to-plan p q agree large large* without without* =
+        let x = plan-gives text order fates begin r fates′ a p (agree .read-first) large in
+        let y = plan-gives text* order* fates* begin* s fates*′ b q (agree .read-second) large* in
+        let alike =
+        rules-alike text text* a b agree
+        (none-planned a (rw (x .part-is) at without)) (none-planned b (rw (y .part-is) at without*)) in
         record {
-          decision =
-              x .decision ∙ same-decision alike ∙ sym (y .decision);
-          plan =
-              x .order-left
-              ∙ ap (λ js. padded (length (order .now)) 0 (numbersOf js)) (alike .jobs)
-              ∙ ap (λ n. padded n 0 (numbersOf (planOf b .jobs))) as-long
-              ∙ sym (y .order-left);
-          fate = λ i k h l same-number out.
-              ap (λ fs. getD fs i 0) (x .fates-left)
-              ∙ fate-at a valid-a (length (fates .now)) i h
-              ∙ sym (outside-found _ out (planOf a .fates))
-              ∙ ap (fateOf (getD (a .jobs) i noJob .number)) (alike .fates)
-              ∙ outside-found _ out (planOf b .fates)
-              ∙ ap (λ n. fateOf n (planOf b .fates)) same-number
-              ∙ sym (fate-at b valid-b (length (fates* .now)) k l)
-              ∙ sym (ap (λ fs. getD fs k 0) (y .fates-left));
+          answer = x .answer ∙ same-decision text text* a b agree alike ∙ sym (y .answer);
+          plan = x .part-is ∙ ap numbersOf (alike .jobs) ∙ sym (y .part-is);
+          fate = rw (x .fates-left) (rw (y .fates-left) (same-fates text text* a b agree alike (length fates) (length fates*)));
         }
-      where
-        same-decision : Alike (outOf set) a b
-            → Decision.Plan (length (planOf a .jobs)) (planOf a .speed .mhz) (planOf a .energy)
-            ≡ Decision.Plan (length (planOf b .jobs)) (planOf b .speed .mhz) (planOf b .energy)
-        same-decision alike = rw (alike .jobs, alike .speed, alike .energy)
+
+  module _ (lifetimes lifetimes* : Lfts 2) (text text* out out* after after* : RefT (List ℕ)) (w v : Written)
+      (a b : Records) where
+    -- Demand 3, over `list`.
+    pub unplanned-do-not-matter-to-list :
+        listing.Promised lifetimes text out w after → listing.Promised lifetimes* text* out* v after*
+        → TextsAgree set (text .now) (text* .now) a b → NonePlanned set a → NonePlanned set b
+        → length (listingOf (text .now)) ≤ length (out .now) → length (listingOf (text* .now)) ≤ length (out* .now)
+        → SameListing (outOf set) a b (frontOf (writtenSays w) (after .now)) (frontOf (writtenSays v) (after* .now))
+    unplanned-do-not-matter-to-list p q agree without without* fits fits* =
+        listed-same (text .now) (text* .now) a b agree (out .now) (after .now) (out* .now) (after* .now)
+        (writtenSays w) (writtenSays v) without without*
+        (list-gives lifetimes text out after w p fits) (list-gives lifetimes* text* out* after* v q fits*)
+
+  module _ (text text* out out* after after* : List ℕ) (r s : TextAnswer) (a b : Records) where
+    -- Demand 3, over `cuddlelamb_list`.
+    pub unplanned-do-not-matter-to-cuddlelamb-list :
+        boundary.ListedAs text out r after → boundary.ListedAs text* out* s after*
+        → TextsAgree set text text* a b → NonePlanned set a → NonePlanned set b
+        → length (listingOf text) ≤ length out → length (listingOf text*) ≤ length out*
+        → SameListing (outOf set) a b (frontOf (boundary.textSays r) after) (frontOf (boundary.textSays s) after*)
+    unplanned-do-not-matter-to-cuddlelamb-list p q agree without without* fits fits* =
+        listed-same text text* a b agree out after out* after* (boundary.textSays r) (boundary.textSays s) without without*
+        (cuddlelamb-list-gives text out after r p fits) (cuddlelamb-list-gives text* out* after* s q fits*)

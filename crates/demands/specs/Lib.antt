@@ -1,3 +1,4 @@
 pub mod Trips
 pub mod Plans
+pub mod Refused
 pub mod Unplanned

@@ -1,28 +1,39 @@
 -- The first line of a text, judged after nothing: what is accepted there is a T, so an accepted line 1 tells the clock and
--- the budget and any other is the rules' refusal of line 1. A text that is read as a table has its clock and budget from line
--- 1, and a text whose line 1 is refused is refused so. Assumes nothing.
+-- the budget and any other is the rules' refusal of line 1; and the letter and the two numbers that the reader takes of a T line
+-- are what its item is made of. Assumes nothing.
 use mathlib.Core.Bool.{true, false, false≢true}
 use mathlib.Core.List.{List, [], _∷_}
-use mathlib.Core.Path.{_≡_, refl, sym, ap}
+use mathlib.Core.Option.{Option, none, some}
+use mathlib.Core.Path.{_≡_, refl, sym, ap, _∙_}
 use Prim.Native.Nat.{ℕ, _<_}
 use native.Mathlib.Omega.{arith}
 use lib.ListN.{length, replicate}
 use Rattle.columns.proofs.Stored.{nothing-filled}
+use Rattle.laws.proofs.LineNumbers.{others-have-two}
 use Rattle.laws.proofs.Lines.{items}
 use Rattle.laws.proofs.Stopped.{accepted-exactly}
 use Rattle.laws.specs.FirstLine.{firstItem}
+use Rattle.lines.proofs.Judged.{clock-judged}
 use Rattle.lines.specs.Step.{LineAccepted, Noted, judgedAs}
+use Rattle.records.specs.Faults.{clockFault}
 use Rattle.records.specs.Standing.{noneStanding}
+use Rattle.rules.specs.Answers.{good}
 use Rattle.rules.specs.Lists.{no-element}
-use Rattle.rules.specs.Refusals.{Before, Item, accept, accepted, added, bad, itemsIn, mayStand, nothing, one}
-use Rattle.rules.specs.TableText.{Record, Records, linesOf, mostJobs, noRecords, partedBy}
+use Rattle.rules.specs.Refusals.{Before, Item, accept, accepted, added, bad, faultOf, itemsIn, judged, mayStand, nothing, one}
+use Rattle.rules.specs.TableText.{Record, Records, letterT, lineFeed, linesOf, mostJobs, noRecords, partedBy, recordOf, tab}
+use Rattle.rules.specs.declared.Field.{Field}
 use Rattle.rules.specs.declared.Refusal.{Refusal}
-use Rattle.text.specs.Lines.{refusedLineOr}
+use Rattle.text.proofs.Records.{letter-line-read, no-letter-read}
+use Rattle.text.proofs.Told.{both-numbers, refused-field, second-refused}
+use Rattle.text.specs.Fields.{FieldsTold, bothTold, numberAt, refusedField, takenSays, twoNumbersAt}
+use Rattle.text.specs.Lines.{LineRead, Row, itemOf, lineWith, pairsAt, refusedLine, refusedLineOr}
 use Rattle.text.specs.declared.Line.{Line}
 use Rattle.text.specs.declared.Parsed.{Parsed}
+use Rattle.text.specs.declared.Taken.{Taken}
 use Rattle.front.specs.ClockLine.{clockLineSays, firstLine, firstOf, lineOneSays}
-use Rattle.front.specs.Reading.{firstPlace}
+use Rattle.front.specs.Reading.{firstPlace, takenAt}
 use Rattle.front.specs.declared.ClockLine.{ClockLine}
+use Rattle.front.specs.declared.Kind.{Kind}
 
 -- before line 1 nothing is noted
 pub nothing-noted : Noted nothing noneStanding (replicate mostJobs 0) (replicate mostJobs 0)
@@ -79,3 +90,73 @@ pub no-line : (text : List ℕ) → length text ≡ 0 → clockLineSays (ClockLi
 unfolding firstLine firstOf linesOf partedBy itemsIn
 no-line [] e = refl
 no-line (x ∷ text) e = absurd (omega arith)
+
+-- Line 1 field by field. What the reader takes of it is what the line's item is made of.
+module _ (text : List ℕ) (some-byte : 0 < length text) where
+  line-one-item : (l : Line) → LineRead text firstPlace l → lineOneSays (accept nothing (itemOf (l .parsed))) ≡ firstLine text
+  unfolding firstLine firstOf
+  line-one-item l line = rw (items text some-byte) (ap (λ i. lineOneSays (accept nothing i)) (line .item))
+
+  -- without a letter the line has no shape
+  pub no-letter-one : (letter : Taken) (why : Refusal) (line : ℕ) → takenSays letter ≡ takenAt text firstPlace Kind.Letter
+      → letter .field ≡ Field.Refused why line → clockLineSays (ClockLine.Refused Refusal.Shape 1) ≡ firstLine text
+  unfolding takenAt itemOf accept lineOneSays
+  no-letter-one letter why line e f =
+      line-one-item (refusedLine firstPlace) (no-letter-read text firstPlace letter e why line f)
+
+  module _ (letter clock : Taken) (e : takenSays letter ≡ takenAt text firstPlace Kind.Letter)
+      (f : letter .field ≡ Field.Number letterT) (d : takenSays clock ≡ takenAt text (letter .next) Kind.Number) where
+    -- the line of a T and its row of two numbers
+    row-of-two : (row : Option Row) → pairsAt 0 text (letter .next) ≡ row → LineRead text firstPlace (lineWith firstPlace letterT row)
+    unfolding takenAt
+    row-of-two row g =
+        rw (← g) (letter-line-read text firstPlace letter e letterT f 0 (others-have-two letterT _ refl))
+
+    no-row : pairsAt 0 text (letter .next) ≡ none → clockLineSays (ClockLine.Refused Refusal.Shape 1) ≡ firstLine text
+    unfolding lineWith itemOf accept lineOneSays
+    no-row g = line-one-item (refusedLine firstPlace) (row-of-two none g)
+
+    pub no-clock-one : (why : Refusal) (line : ℕ) → clock .field ≡ Field.Refused why line
+        → clockLineSays (ClockLine.Refused Refusal.Shape 1) ≡ firstLine text
+    unfolding pairsAt twoNumbersAt takenAt
+    no-clock-one why line g = no-row (rw (refused-field clock (numberAt text (letter .next) tab) why line d g))
+
+    module _ (budget : Taken) (n : ℕ) (number : clock .field ≡ Field.Number n)
+        (b : takenSays budget ≡ takenAt text (clock .next) Kind.Last) where
+      abbrev two : FieldsTold
+      two = bothTold (letter .next) (numberAt text (letter .next) tab) (numberAt text (numberAt text (letter .next) tab .next) lineFeed)
+
+      two-told : (told : FieldsTold) → told ≡ two → twoNumbersAt text (letter .next) lineFeed ≡ told
+      unfolding twoNumbersAt
+      two-told told same = sym same
+
+      pub no-budget-one : (why : Refusal) (line : ℕ) → budget .field ≡ Field.Refused why line
+          → clockLineSays (ClockLine.Refused Refusal.Shape 1) ≡ firstLine text
+      unfolding pairsAt takenAt
+      no-budget-one why line g =
+          no-row
+          (rw (two-told (refusedField (letter .next))
+          (second-refused (letter .next) (numberAt text (letter .next) tab) (λ next. numberAt text next lineFeed) clock budget n d b number why line g)))
+
+      pub both-numbers-one : (m : ℕ) → budget .field ≡ Field.Number m
+          → lineOneSays (accept nothing (one (Record.T n m))) ≡ firstLine text
+      unfolding pairsAt takenAt lineWith recordOf itemOf
+      both-numbers-one m g =
+          line-one-item _
+          (row-of-two (some (record { numbers = n ∷ (m ∷ []); next = budget .next }))
+          (rw (two-told (record { says = good (n ∷ (m ∷ [])); next = budget .next })
+          (both-numbers (letter .next) (numberAt text (letter .next) tab) (λ next. numberAt text next lineFeed) clock budget n d b number m g))))
+
+-- The numbers of a T line, judged after nothing.
+module _ (clock budget : ℕ) (o : Option Refusal) (fault : o ≡ clockFault noneStanding clock budget) where
+  judged-one : o ≡ faultOf nothing (Record.T clock budget)
+  judged-one = clock-judged nothing noneStanding (replicate mostJobs 0) (replicate mostJobs 0) nothing-noted clock budget fault
+
+  pub good-clock : o ≡ none → clockLineSays (ClockLine.Clock clock budget) ≡ lineOneSays (accept nothing (one (Record.T clock budget)))
+  unfolding accept judged lineOneSays added nothing noRecords
+  good-clock e = rw (sym judged-one ∙ e)
+
+  pub bad-clock : (why : Refusal) → o ≡ some why
+      → clockLineSays (ClockLine.Refused why 1) ≡ lineOneSays (accept nothing (one (Record.T clock budget)))
+  unfolding accept judged lineOneSays
+  bad-clock why e = rw (sym judged-one ∙ e)

@@ -1,14 +1,22 @@
 // The box's front end: one reader that keeps the text and the reading place together. Its functions are thin: each takes
-// the reader apart and leaves the work to the cursor, over a plain slice. The T line of a text is read without a reader.
+// the reader apart and leaves the work to the cursor, over a plain slice. `take` stands above them with plain parameters,
+// for callers who would else need a walk by hand; the T line of a text is read by it.
+use records::Judgement;
 use rules::Field;
 use rules::MOST_JOBS;
 use rules::Refusal;
 use text::Cursor;
+use text::LETTER_T;
 use text::Parsed;
 use text::Taken;
 ghost use mathlib.Core.Path.{_≡_};
-ghost use Rattle.front.specs.ClockLine.{clockLineSays, firstLine};
-ghost use Rattle.front.specs.Reading.{Moved, Next, Placed, Started, takenAt};
+ghost use Prim.Native.Nat.{_<_};
+ghost use Rattle.front.specs.ClockLine.{clockLineSays, firstLine, lineOneSays};
+ghost use Rattle.front.specs.Reading.{Moved, Next, Placed, Started, Took, takenAt};
+ghost use Rattle.rules.specs.Answers.{fieldSays};
+ghost use Rattle.rules.specs.Refusals.{accept, nothing, one};
+ghost use Rattle.rules.specs.TableText.{Record};
+ghost use Rattle.text.specs.Fields.{takenSays};
 
 // The text, and the reading place in it.
 pub struct Reader<'a> {
@@ -16,10 +24,11 @@ pub struct Reader<'a> {
     pub place: Cursor,
 }
 
-// Which field stands next: the letter of a line, or a number that is ended by the byte given.
+// Which field stands next: the letter of a line, a number with a tab behind it, or the last of the line.
 pub enum Kind {
     Letter,
-    Number(u8),
+    Number,
+    Last,
 }
 
 // The T line's clock and budget, or the refusal of line 1.
@@ -30,17 +39,18 @@ pub enum ClockLine {
 
 // The field of a kind that stands at a place, and the place behind it.
 fn taken_at(text: &[u8], place: Cursor, kind: Kind) -> Taken
-    ensures { λ r. ⌜ r ≡ takenAt (now (text .entry)) place kind ⌝ }
+    ensures { λ r. ⌜ takenSays r ≡ takenAt (now (text .entry)) place kind ⌝ }
 {
     match kind {
         Kind::Letter => place.letter(text),
-        Kind::Number(end) => place.number(text, end),
+        Kind::Number => place.number(text, b'\t'),
+        Kind::Last => place.number(text, b'\n'),
     }
 }
 
 // The field alone.
 fn field_at(text: &[u8], place: Cursor, kind: Kind) -> Field
-    ensures { λ r. ⌜ r ≡ takenAt (now (text .entry)) place kind .field ⌝ }
+    ensures { λ r. ⌜ fieldSays r ≡ takenAt (now (text .entry)) place kind .says ⌝ }
 {
     let taken = taken_at(text, place, kind);
     taken.field
@@ -54,14 +64,11 @@ fn place_behind(text: &[u8], place: Cursor, kind: Kind) -> Cursor
     taken.next
 }
 
-// A reader at the start of a text: at its first byte, in line 1.
-pub fn start<'a>(text: &'a [u8]) -> Reader<'a>
-    ensures { λ r. ⌜ Started (text .entry) r ⌝ }
+// A reader of a text at a place: a text begins at byte 0, in line 1.
+pub fn start<'a>(text: &'a [u8], place: Cursor) -> Reader<'a>
+    ensures { λ r. ⌜ Started (text .entry) place r ⌝ }
 {
-    Reader {
-        text,
-        place: Cursor { at: 0, line: 1 },
-    }
+    Reader { text, place }
 }
 
 // The next field, which the reader leaves where it is.
@@ -88,13 +95,22 @@ pub fn place<'a>(reader: Reader<'a>) -> Cursor
     reader.place
 }
 
-// What the first line alone says: the clock and the budget of the T line, or the refusal of line 1.
-pub fn clock_and_budget(text: &[u8]) -> ClockLine
+// The field of a kind that stands at a place, and the place behind it: a reader is made there, asked and moved on.
+pub fn take(text: &[u8], from: Cursor, kind: Kind) -> Taken
+    ensures { λ r. ⌜ Took (now (text .entry)) from kind r ⌝ }
+{
+    let reader = start(text, from);
+    Taken {
+        field: next(reader, kind),
+        next: place(moved(reader, kind)),
+    }
+}
+
+// What line 1 alone says, as any line is judged after nothing: the T line's clock and budget, or the refusal.
+fn line_one(text: &[u8]) -> ClockLine
+    requires { do ⌜ 0 < (← ⟦text.len()⟧) ⌝ }
     ensures { λ r. ⌜ clockLineSays r ≡ firstLine (now (text .entry)) ⌝ }
 {
-    if text.len() == 0 {
-        return ClockLine::Refused(Refusal::Order, 1);
-    }
     let columns = [0u64; MOST_JOBS];
     let before = records::none_standing();
     let line = lines::accept_line(text, Cursor { at: 0, line: 1 }, before, &columns, &columns);
@@ -104,4 +120,45 @@ pub fn clock_and_budget(text: &[u8]) -> ClockLine
         Parsed::Refused(why, at) => ClockLine::Refused(why, at),
         _ => ClockLine::Refused(Refusal::Order, 1),
     }
+}
+
+// A T line's numbers, judged after nothing.
+fn clock_line(clock: u64, budget: u64) -> ClockLine
+    ensures { λ r. ⌜ clockLineSays r ≡ lineOneSays (accept nothing (one (Record.T clock budget))) ⌝ }
+{
+    let before = records::none_standing();
+    let judgement = records::judge_clock(before, clock, budget);
+    let Judgement::Bad(why) = judgement else {
+        return ClockLine::Clock(clock, budget);
+    };
+    ClockLine::Refused(why, 1)
+}
+
+// What the first line alone says: the clock and the budget of the T line, or the refusal of line 1. The reader takes the
+// letter and both numbers; a line that begins with another letter is none of its own, and is judged as a line of a table.
+pub fn clock_and_budget(text: &[u8]) -> ClockLine
+    ensures { λ r. ⌜ clockLineSays r ≡ firstLine (now (text .entry)) ⌝ }
+{
+    if text.len() == 0 {
+        return ClockLine::Refused(Refusal::Order, 1);
+    }
+    let first = take(text, Cursor { at: 0, line: 1 }, Kind::Letter);
+    let letter_field = first.field;
+    let Field::Number(letter) = letter_field else {
+        return ClockLine::Refused(Refusal::Shape, 1);
+    };
+    if letter != LETTER_T {
+        return line_one(text);
+    }
+    let second = take(text, first.next, Kind::Number);
+    let clock_field = second.field;
+    let Field::Number(clock) = clock_field else {
+        return ClockLine::Refused(Refusal::Shape, 1);
+    };
+    let third = take(text, second.next, Kind::Last);
+    let budget_field = third.field;
+    let Field::Number(budget) = budget_field else {
+        return ClockLine::Refused(Refusal::Shape, 1);
+    };
+    clock_line(clock, budget)
 }

@@ -15,11 +15,12 @@ use Rattle.laws.proofs.Elements.{each-map, each-too}
 use Rattle.laws.proofs.Entries.{own-planned}
 use Rattle.laws.proofs.Jobs.{Listed, each-left, each-timely, is-holder, jobs-cycles, jobs-listed, left-listed, left-stays, listed-has, waits-listed}
 use Rattle.laws.proofs.Lookups.{each-always, each-both, each-keep, find-keep, find-keep-none, find-keep-some, found-passes, keep-agree, keep-all, keep-passes, keep-through, none-found}
-use Rattle.laws.proofs.Outside.{Alone, Parted, late-same, leaves-same, onlyOutside, outerFated, outerHold, outerJob, planned-alone}
+use Rattle.laws.proofs.Outside.{Alone, Parted, late-same, leaves-same, onlyOutside, planned-alone}
 use Rattle.laws.proofs.Pairs.{Pairwise, no-pair, pairs-too, rising-pairs, _then_}
 use Rattle.laws.proofs.Planned.{one-exactly-for-planned, planned-left}
 use Rattle.laws.proofs.Rings.{walk-never-comes-back}
 use Rattle.laws.proofs.Walks.{same-walk}
+use Rattle.laws.specs.Demand3.{outerFated, outerHold, outerJob}
 use Rattle.rules.specs.Lists.{Each, any, find, keep}
 use Rattle.rules.specs.Plan.{Entry, Fated, asksFor, awaited, courseOf, fateIn, fatePlanned, follow, holderIn, inPlan, isOf, lateIn, leavesItsRing, leavesRing, left, planFrom, planOf, same, timely, waitsFor, waitsLeft, waitsTimely}
 use Rattle.rules.specs.Refusals.{isHolder}

@@ -10,8 +10,9 @@ use Rattle.laws.proofs.Choices.{split-option}
 use Rattle.laws.proofs.Elements.{each-too}
 use Rattle.laws.proofs.Jobs.{each-left, each-timely, is-holder, jobs-cycles, waits-by, waits-each, waits-number}
 use Rattle.laws.proofs.Lookups.{each-always, each-unmap, find-keep, found-each, found-passes, keep-agree}
-use Rattle.laws.proofs.Outside.{AllOut, Alone, Parted, late-same, leaves-same, onlyOutside, outerFated, outerHold, outerJob, planned-alone}
+use Rattle.laws.proofs.Outside.{AllOut, Alone, Parted, late-same, leaves-same, onlyOutside, planned-alone}
 use Rattle.laws.proofs.Walks.{same-walk}
+use Rattle.laws.specs.Demand3.{Agree, Alike, NoneAsksInside, NonePlanned, outOf, outerHold, outerJob}
 use Rattle.rules.specs.Lists.{Each, find, keep}
 use Rattle.rules.specs.Plan.{Entry, asksFor, awaited, courseOf, holderIn, jobsOf, lateIn, leavesItsRing, leavesRing, left, planFrom, planOf, timely, waitsFor, waitsLeft, waitsTimely}
 use Rattle.rules.specs.Refusals.{isHolder}
@@ -113,15 +114,8 @@ module _ (out : ℕ → Bool) where
   pub set-does-not-matter : (t : Records) → Fit t → Alone out t
   set-does-not-matter t f = planned-alone out t (fit-parted t f)
 
-  -- the same plan, speed and energy, and the same fate for every job outside
-  pub record Alike (a b : Records) : Type 0 where
-    pub jobs : planOf a .jobs ≡ planOf b .jobs
-    pub speed : planOf a .speed ≡ planOf b .speed
-    pub energy : planOf a .energy ≡ planOf b .energy
-    pub fates : keep (outerFated out) (planOf a .fates) ≡ keep (outerFated out) (planOf b .fates)
-
   -- Demand 3, with the premises that its proof uses.
-  pub demand-3 : (a b : Records) → onlyOutside out a ≡ onlyOutside out b → Fit a → Fit b → Alike a b
+  pub demand-3 : (a b : Records) → onlyOutside out a ≡ onlyOutside out b → Fit a → Fit b → Alike out a b
   demand-3 a b e fa fb =
       let x = set-does-not-matter a fa in
       let y = set-does-not-matter b fb in
@@ -134,37 +128,17 @@ module _ (out : ℕ → Bool) where
 
 -- Demand 3 as it is demanded, for a set of job numbers.
 module _ (set : ℕ → Bool) where
-  abbrev pub outOf : ℕ → Bool
-  outOf n = not (set n)
-
-  -- the tables agree in every job outside the set, in the resources those jobs hold, and in clock, budget, speeds and costs
-  pub record Agree (a b : Records) : Type 0 where
-    pub clock : a .clock ≡ b .clock
-    pub budget : a .budget ≡ b .budget
-    pub speeds : a .speeds ≡ b .speeds
-    pub jobs : keep (outerJob outOf) (a .jobs) ≡ keep (outerJob outOf) (b .jobs)
-    pub holds : keep (outerHold outOf) (a .holds) ≡ keep (outerHold outOf) (b .holds)
-
-  -- no job outside the set asks for a resource that a job inside holds
-  abbrev pub NoneAsksInside : Records → Type 0
-  NoneAsksInside t =
-      Each (λ j. outOf (j .number) ≡ true → Each (λ h. asksFor j h ≡ true → outOf (h .holder) ≡ true) (t .holds)) (t .jobs)
-
-  -- the plan contains no job of the set
-  abbrev pub NonePlanned : Records → Type 0
-  NonePlanned t = Each (λ (j : Job). outOf (j .number) ≡ true) (planOf t .jobs)
-
-  fits : (t : Records) → Valid t → NoneAsksInside t → NonePlanned t → Fit outOf t
+  fits : (t : Records) → Valid t → NoneAsksInside set t → NonePlanned set t → Fit (outOf set) t
   unfolding planOf planFrom jobsOf
   fits t v a n =
       record { asks = a; cycles = jobs-cycles t v; none-in = each-unmap (λ (e : Entry). e .job) (courseOf t .plan) n }
 
-  same-outside : (a b : Records) → Agree a b → onlyOutside outOf a ≡ onlyOutside outOf b
+  same-outside : (a b : Records) → Agree set a b → onlyOutside (outOf set) a ≡ onlyOutside (outOf set) b
   unfolding onlyOutside
   same-outside a b g = rw (g .clock, g .budget, g .speeds, g .jobs, g .holds)
 
   -- Jobs that are not planned do not matter.
-  pub unplanned-do-not-matter : (a b : Records) → Valid a → Valid b → Agree a b → NoneAsksInside a → NoneAsksInside b
-      → NonePlanned a → NonePlanned b → Alike outOf a b
+  pub unplanned-do-not-matter : (a b : Records) → Valid a → Valid b → Agree set a b → NoneAsksInside set a → NoneAsksInside set b
+      → NonePlanned set a → NonePlanned set b → Alike (outOf set) a b
   unplanned-do-not-matter a b va vb g aa ab na nb =
-      demand-3 outOf a b (same-outside a b g) (fits a va aa na) (fits b vb ab nb)
+      demand-3 (outOf set) a b (same-outside a b g) (fits a va aa na) (fits b vb ab nb)

@@ -8,10 +8,11 @@ use mathlib.Core.Path.{_≡_, refl}
 use Prim.Native.Nat.{ℕ}
 use lib.Dec.{leb}
 use Rattle.laws.proofs.Choices.{clash}
-use Rattle.laws.proofs.Demand3.{Alike, NoneAsksInside, NonePlanned, outOf, unplanned-do-not-matter}
+use Rattle.laws.proofs.Demand3.{unplanned-do-not-matter}
 use Rattle.laws.proofs.Elements.{each-too}
 use Rattle.laws.proofs.Lookups.{all-each}
 use Rattle.laws.proofs.Tables.{hold, job, read-valid, table, twoSpeeds}
+use Rattle.laws.specs.Demand3.{Alike, NoneAsksInside, NonePlanned, outOf}
 use Rattle.rules.specs.Case.{right}
 use Rattle.rules.specs.Lists.{all}
 use Rattle.rules.specs.Plan.{asksFor, numbersOf, planOf, waitsLeft}

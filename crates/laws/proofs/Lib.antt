@@ -10,6 +10,7 @@ pub mod LineText
 pub mod Put
 pub mod Parted
 pub mod Parts
+pub mod PartPlaces
 pub mod LineNumbers
 pub mod Lines
 pub mod Stopped

@@ -1,21 +1,22 @@
 -- The items of a text are the item of its first line, and then those of what stands behind it. A first line that begins with a
 -- letter and a tab holds what the letter and the numbers behind the tab make, and any other line holds no record: by the
 -- definitions, byte by byte up to the tab. Assumes nothing.
-use mathlib.Core.Path.{_≡_, refl, _∙_, ap}
-use mathlib.Core.Bool.{Bool, true, false, cond, _||_, and-false}
+use mathlib.Core.Path.{_≡_, refl, sym, _∙_, ap}
+use mathlib.Core.Bool.{Bool, true, false, cond, _||_, and-false, false≢true}
 use mathlib.Core.List.{List, [], _∷_}
 use mathlib.Core.Option.{Option, none, some}
-use Prim.Native.Nat.{ℕ, _<_}
+use Prim.Native.Nat.{ℕ, _+_, _≤_, _<_}
 use native.Mathlib.Omega.{arith}
 use borrow.Author.Tests.{eqb-true}
 use lib.Dec.{eqb}
 use lib.ListN.{drop, length}
-use Rattle.rules.specs.TableText.{Record, fieldsOf, fieldsRecord, lineFeed, linesOf, numbersIn, ontoFirst, partedBy, recordOf, shapeOf, tab, withNumbers}
-use Rattle.rules.specs.Refusals.{bad, itemShaped, itemsIn}
+use Rattle.rules.specs.TableText.{Record, fieldsOf, fieldsRecord, isLetter, letterF, letterH, letterJ, letterT, lineFeed, linesOf, numbersIn, ontoFirst, partedBy, recordOf, shapeOf, tab, withNumbers}
+use Rattle.rules.specs.Refusals.{bad, itemShaped, itemsIn, one}
 use Rattle.rules.specs.declared.Refusal.{Refusal}
 use Rattle.laws.specs.FirstLine.{behind, firstItem, has, restOf, upTo}
+use Rattle.laws.proofs.Choices.{neither}
 use Rattle.laws.proofs.LineNumbers.{begins, numbersFrom}
-use Rattle.laws.proofs.Parts.{behind-none, behind-shorter, parts}
+use Rattle.laws.proofs.Parts.{behind-none, behind-shorter, behind-within, parts}
 
 items-by-test : (t u : Bool) (x : ℕ) (l m : List ℕ) (ls more : List (List ℕ))
     → more ≡ m ∷ ls
@@ -49,16 +50,23 @@ unfolding restOf
 rest-shorter [] h = absurd (omega arith)
 rest-shorter (x ∷ s) h = behind-shorter lineFeed x s
 
--- A tab and a line feed are no letters.
+-- A byte that is no letter of a record makes none; a tab and a line feed are no letters.
+pub no-letter : (b : ℕ) → isLetter b ≡ false → (ns : Option (List ℕ)) → withNumbers b ns ≡ none
+unfolding isLetter withNumbers recordOf
+no-letter b n none = refl
+no-letter b n (some ns) =
+    let h = neither (eqb b letterT || eqb b letterF || eqb b letterJ) (eqb b letterH) n in
+    let j = neither (eqb b letterT || eqb b letterF) (eqb b letterJ) (h .0) in
+    let f = neither (eqb b letterT) (eqb b letterF) (j .0) in
+    rw (f .0, f .1, j .1, h .1)
+
 tab-no-letter : (ns : Option (List ℕ)) → withNumbers tab ns ≡ none
-unfolding withNumbers recordOf
-tab-no-letter none = refl
-tab-no-letter (some ns) = refl
+unfolding isLetter
+tab-no-letter ns = no-letter tab refl ns
 
 line-feed-no-letter : (ns : Option (List ℕ)) → withNumbers lineFeed ns ≡ none
-unfolding withNumbers recordOf
-line-feed-no-letter none = refl
-line-feed-no-letter (some ns) = refl
+unfolding isLetter
+line-feed-no-letter ns = no-letter lineFeed refl ns
 
 -- A line that begins with a letter and a tab holds what the letter and the numbers behind the tab make.
 bad-both : (t : Bool) → cond t (bad Refusal.Shape) (bad Refusal.Shape) ≡ bad Refusal.Shape
@@ -124,8 +132,47 @@ bytes-by-test false true h x y l n = rw (letter-alone (eqb x tab) x)
 bytes-by-test false false h x y l n =
     rw (n, two-bytes (eqb x tab) x y (partedBy tab l) _ _ (parts tab l)) (bad-both h)
 
+pub other-byte-first : (b : ℕ) (s : List ℕ) → isLetter b ≡ false → firstItem (b ∷ (tab ∷ s)) ≡ bad Refusal.Shape
+unfolding itemShaped
+other-byte-first b s n = letter-first b s ∙ ap itemShaped (no-letter b n (numbersFrom s))
+
 pub no-letter-first : (s : List ℕ) → begins tab (drop 1 s) ≡ false → firstItem s ≡ bad Refusal.Shape
 unfolding firstItem upTo
 no-letter-first [] n = refl
 no-letter-first (x ∷ []) n = one-by-test (eqb x lineFeed) x
 no-letter-first (x ∷ (y ∷ s)) n = bytes-by-test (eqb x lineFeed) (eqb y lineFeed) (has lineFeed s) x y (upTo lineFeed s) n
+
+no-shape : {r : Record} → bad Refusal.Shape ≡ one r → ⊥
+no-shape e = let z : _≡_ {A = ℕ} 0 1 = cc in omega arith
+
+-- numbers behind a letter that make a record end a line
+numbered : (x : ℕ) (rest : List ℕ) (ns : Option (List ℕ)) (r : Record) → itemShaped (withNumbers x ns) ≡ one r
+    → restOf (x ∷ (tab ∷ rest)) ≡ restOf rest
+unfolding withNumbers itemShaped
+numbered x rest none r h = absurd (no-shape h)
+numbered x rest (some ns) r h = by-record (recordOf x ns) refl h
+  where
+    by-record : (o : Option Record) → recordOf x ns ≡ o → itemShaped o ≡ one r → restOf (x ∷ (tab ∷ rest)) ≡ restOf rest
+    by-record none e h = absurd (no-shape h)
+    by-record (some q) e h = letter-rest x rest ns q e
+
+-- A line with a record has a letter and a tab at least, and what stands behind it is so much shorter.
+letter-stands : (t : Bool) (s : List ℕ) (r : Record) → begins tab (drop 1 s) ≡ t → firstItem s ≡ one r
+    → (x : ℕ) × (rest : List ℕ) × (s ≡ x ∷ (tab ∷ rest))
+letter-stands false s r e h = absurd (no-shape (sym (no-letter-first s e) ∙ h))
+letter-stands true [] r e h = absurd (false≢true e)
+letter-stands true (x ∷ []) r e h = absurd (false≢true e)
+letter-stands true (x ∷ (y ∷ s)) r e h = (x, s, rw (eqb-true y tab e))
+
+pub record-rest : (s : List ℕ) (r : Record) → firstItem s ≡ one r → length (restOf s) + 2 ≤ length s
+unfolding restOf
+record-rest s r h =
+    let (x, rest, e) = letter-stands (begins tab (drop 1 s)) s r refl h in
+    let shaped : itemShaped (withNumbers x (numbersFrom rest)) ≡ one r = sym (letter-first x rest) ∙ (ap firstItem (sym e) ∙ h) in
+    omega (
+      arith,
+      ap length e,
+      ap (λ t. length (restOf t)) e,
+      ap length (numbered x rest (numbersFrom rest) r shaped),
+      behind-within lineFeed rest,
+    )

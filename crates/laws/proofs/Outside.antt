@@ -12,25 +12,16 @@ use Rattle.laws.proofs.Entries.{is-of, no-entry}
 use Rattle.laws.proofs.Jobs.{same-number}
 use Rattle.laws.proofs.Lookups.{each-always, find-keep, found-each, found-passes, keep-map, map-agree, total-agree}
 use Rattle.laws.proofs.Turns.{keep-turns, turns-run}
+use Rattle.laws.specs.Demand3.{outerFated, outerHold, outerJob}
 use Rattle.rules.specs.Lists.{Each, all, find, keep, sorted}
 use Rattle.rules.specs.Plan.{Course, Entry, Fated, Run, Turn, after, awaited, before, chainOf, course, courseOf, cyclesOf, endsLate, fateIn, gives, goesRather, inPlan, inRunningOrder, isOf, jobsOf, judge, lateIn, leavesItsRing, leavesRing, left, ownFate, planFrom, planOf, qualifies, ratioOf, runsOf, same, speedFor, start, tooDear, topOf, turn, turnOf, turns, waitsLeft, weightIn}
 use Rattle.rules.specs.TableText.{Records}
-use Rattle.rules.specs.declared.Hold.{Hold}
 use Rattle.rules.specs.declared.Job.{Job}
 
 -- `out n`: the job of number n lies outside the set
 module _ (out : ℕ → Bool) where
-  abbrev pub outerJob : Job → Bool
-  outerJob j = out (j .number)
-
-  abbrev pub outerHold : Hold → Bool
-  outerHold h = out (h .holder)
-
   abbrev pub outerTurn : Turn → Bool
   outerTurn i = out (i .job .number)
-
-  abbrev pub outerFated : Fated → Bool
-  outerFated i = out (i .job .number)
 
   -- nobody of the set is in the plan
   abbrev pub AllOut : List Entry → Type 0
@@ -43,15 +34,15 @@ module _ (out : ℕ → Bool) where
         clock = t .clock;
         budget = t .budget;
         speeds = t .speeds;
-        jobs = keep outerJob (t .jobs);
-        holds = keep outerHold (t .holds);
+        jobs = keep (outerJob out) (t .jobs);
+        holds = keep (outerHold out) (t .holds);
       }
 
   -- the course, less the own fates of the set's jobs
   unfoldable pub seenOutside : Course → Course
-  seenOutside c = record { plan = c .plan; ownFates = keep outerFated (c .ownFates) }
+  seenOutside c = record { plan = c .plan; ownFates = keep (outerFated out) (c .ownFates) }
 
-  planned-out : (k : Job) (p : List Entry) → inPlan k p ≡ true → AllOut p → outerJob k ≡ true
+  planned-out : (k : Job) (p : List Entry) → inPlan k p ≡ true → AllOut p → outerJob out k ≡ true
   planned-out k p h a =
       split-option (find (isOf k) p)
       (λ e. clash h (no-entry k p e))
@@ -116,16 +107,16 @@ module _ (out : ℕ → Bool) where
 
     -- what it takes for the jobs outside to be planned alone as they are in the whole table
     pub record Parted : Type 0 where
-      pub left-same : left (onlyOutside t) ≡ keep outerJob (left t)
-      pub awaited-same : Each (λ j. outerJob j ≡ true → awaited (waitsLeft t) j ≡ awaited (waitsLeft (onlyOutside t)) j) (left t)
-      pub leaves-same : Each (λ j. outerJob j ≡ true → leavesItsRing t j ≡ leavesItsRing (onlyOutside t) j) (t .jobs)
+      pub left-same : left (onlyOutside t) ≡ keep (outerJob out) (left t)
+      pub awaited-same : Each (λ j. outerJob out j ≡ true → awaited (waitsLeft t) j ≡ awaited (waitsLeft (onlyOutside t)) j) (left t)
+      pub leaves-same : Each (λ j. outerJob out j ≡ true → leavesItsRing t j ≡ leavesItsRing (onlyOutside t) j) (t .jobs)
       pub cycles : Each (λ (j : Job). 0 < j .cycles) (left t)
       pub none-in : AllOut (courseOf t .plan)
 
     -- the jobs outside, planned alone
     pub record Alone : Type 0 where
       pub jobs : planOf (onlyOutside t) .jobs ≡ planOf t .jobs
-      pub fates : planOf (onlyOutside t) .fates ≡ keep outerFated (planOf t .fates)
+      pub fates : planOf (onlyOutside t) .fates ≡ keep (outerFated out) (planOf t .fates)
       pub speed : planOf (onlyOutside t) .speed ≡ planOf t .speed
       pub energy : planOf (onlyOutside t) .energy ≡ planOf t .energy
 
@@ -140,7 +131,7 @@ module _ (out : ℕ → Bool) where
       turns-same =
           rw (parted .left-same)
           (ap (sorted before)
-          (map-agree outerJob (turnOf t) (turnOf (onlyOutside t)) (each-too (λ j e o. turn-same j (e o)) (parted .awaited-same))
+          (map-agree (outerJob out) (turnOf t) (turnOf (onlyOutside t)) (each-too (λ j e o. turn-same j (e o)) (parted .awaited-same))
           ∙ sym (keep-map outerTurn (turnOf t) (left t)))
           ∙ sym (keep-turns outerTurn (turns-run t (parted .cycles))))
 
@@ -153,12 +144,12 @@ module _ (out : ℕ → Bool) where
       unfolding seenOutside
       plan-same = ap (λ (c : Course). c .plan) seen-same
 
-      fate-same : (j : Job) → outerJob j ≡ true → leavesItsRing t j ≡ leavesItsRing (onlyOutside t) j
+      fate-same : (j : Job) → outerJob out j ≡ true → leavesItsRing t j ≡ leavesItsRing (onlyOutside t) j
           → fateIn t (courseOf t) j ≡ fateIn (onlyOutside t) (courseOf (onlyOutside t)) j
       unfolding fateIn ownFate seenOutside same
       fate-same j o l =
           rw seen-same (rw (late-same j) (rw (sym l)
-          (rw (find-keep (λ (i : Fated). same j (i .job)) outerFated
+          (rw (find-keep (λ (i : Fated). same j (i .job)) (outerFated out)
           (each-always (courseOf t .ownFates) (λ i e. ap out (sym (same-number j (i .job) e)) ∙ o))))))
 
       speed-same : speedFor (onlyOutside t) (jobsOf (courseOf (onlyOutside t) .plan)) ≡ speedFor t (jobsOf (courseOf t .plan))
@@ -173,9 +164,9 @@ module _ (out : ℕ → Bool) where
       planned-alone =
           record {
             jobs = ap jobsOf plan-same;
-            fates = map-agree outerJob (fated t (courseOf t)) (fated (onlyOutside t) (courseOf (onlyOutside t)))
+            fates = map-agree (outerJob out) (fated t (courseOf t)) (fated (onlyOutside t) (courseOf (onlyOutside t)))
                 (each-too (λ j l o. ap (λ n. record { job = j; fate = n }) (fate-same j o (l o))) (parted .leaves-same))
-                ∙ sym (keep-map outerFated (fated t (courseOf t)) (t .jobs));
+                ∙ sym (keep-map (outerFated out) (fated t (courseOf t)) (t .jobs));
             speed = speed-same;
             energy = rw speed-same (rw plan-same);
           }

@@ -7,8 +7,9 @@ use native.Mathlib.Omega.{arith}
 use Rattle.laws.proofs.Elements.{each-too}
 use Rattle.laws.proofs.Jobs.{is-holder}
 use Rattle.laws.proofs.Lookups.{any-keep, any-none, each-always, each-both, each-keep, keep-passes, length-keep, none-any}
-use Rattle.laws.proofs.Outside.{onlyOutside, outerHold, outerJob}
+use Rattle.laws.proofs.Outside.{onlyOutside}
 use Rattle.laws.proofs.Pairs.{pairs-keep, pairs-rising, rising-pairs}
+use Rattle.laws.specs.Demand3.{outerHold, outerJob}
 use Rattle.rules.specs.Lists.{Each, any, keep}
 use Rattle.rules.specs.Refusals.{asksOwn, isHolder}
 use Rattle.rules.specs.TableText.{Records}

@@ -63,7 +63,7 @@ behind-by-test : (t : Bool) (s r : List ℕ) → length r ≤ length s → lengt
 behind-by-test true s r h = omega arith
 behind-by-test false s r h = h
 
-behind-within : (b : ℕ) (s : List ℕ) → length (behind b s) ≤ length s
+pub behind-within : (b : ℕ) (s : List ℕ) → length (behind b s) ≤ length s
 unfolding behind
 behind-within b [] = omega arith
 behind-within b (x ∷ s) = omega (arith, behind-by-test (eqb x b) s (behind b s) (behind-within b s))

@@ -21,7 +21,7 @@ use Rattle.rules.specs.Answers.{Answer, good}
 use Rattle.rules.specs.Lists.{Each, Rising, all, _and_}
 use Rattle.rules.specs.Refusals.{AfterWriting, Item, Taken, added, bad, beyond, check, holdItems, itemsIn, itemsOf, jobItems, nothing, one, read, refusedAt, refusedOut, speedItems, taken, writing, written, writtenOf}
 use Rattle.rules.specs.TableText.{Record, Records, inRange, lined, linesOf, mostHolds, mostJobs, mostSpeeds, noRecords, recordsOf, tableOf, textOf}
-use Rattle.rules.specs.Valid.{Valid}
+use Rattle.rules.specs.Valid.{Valid, WithinPlaces}
 use Rattle.rules.specs.declared.Refusal.{Refusal}
 use Rattle.rules.specs.declared.Hold.{Hold}
 use Rattle.rules.specs.declared.Table.{Table}
@@ -48,12 +48,6 @@ text-read {r} v = read-exactly (textOf r) r .1 (v, refl)
 
 pub read-text : (text : List ℕ) (r : Records) → read text ≡ taken r → textOf r ≡ text
 read-text text r e = sym (read-exactly text r .0 e .1)
-
--- No count is beyond its places.
-pub record WithinPlaces (t : Table) : Type 0 where
-  pub speeds-fit : t .«speed_count» ≤ mostSpeeds
-  pub jobs-fit : t .«job_count» ≤ mostJobs
-  pub holds-fit : t .«hold_count» ≤ mostHolds
 
 -- Records are known by their lines: added one after the other, they are made again.
 abbrev gathered : Records → List Item → Records

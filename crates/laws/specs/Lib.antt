@@ -1,2 +1,4 @@
 pub mod Put
 pub mod FirstLine
+pub mod Demand3
+pub mod PartPlaces

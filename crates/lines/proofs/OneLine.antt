@@ -36,6 +36,7 @@ module _ (text : List ℕ) (place : Cursor) (b : Before) (l : Line) (read : Line
     line = read .line;
     within = read .within;
     rest = read .rest;
+    next-line = read .next-line;
   }
 
   pub bad-line : (why : Refusal) → faultIn b (itemOf (l .parsed)) ≡ some why
@@ -46,4 +47,5 @@ module _ (text : List ℕ) (place : Cursor) (b : Before) (l : Line) (read : Line
     line = refl;
     within = λ h. absurd (false≢true (sym h));
     rest = λ h. absurd (false≢true (sym h));
+    next-line = λ h. absurd (false≢true (sym h));
   }

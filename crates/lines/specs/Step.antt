@@ -11,9 +11,10 @@ use Rattle.records.specs.Standing.{afterClock, afterHold, afterJob, afterSpeed,
 use Rattle.records.specs.declared.Standing.{Standing}
 use Rattle.rules.specs.Lists.{Rising}
 use Rattle.rules.specs.Refusals.{Before, Item, Judged, accept, accepted, added, bad, faultOf, one, refusedFor}
-use Rattle.rules.specs.TableText.{Record}
+use Rattle.rules.specs.TableText.{Record, lineFeed}
 use Rattle.rules.specs.declared.Job.{Job}
 use Rattle.rules.specs.declared.Refusal.{Refusal}
+use Rattle.text.specs.Fields.{lineBehind}
 use Rattle.text.specs.Lines.{isRefused, refusedLineOr}
 use Rattle.text.specs.declared.Cursor.{Cursor}
 use Rattle.text.specs.declared.Line.{Line}
@@ -43,12 +44,13 @@ judgedAs b (Parsed.Job j) = accepted (withMore b (Record.J j))
 judgedAs b (Parsed.Hold h) = accepted (withMore b (Record.H h))
 judgedAs b (Parsed.Refused why line) = refusedFor why
 
--- The line at a place, after what stands before it. Where it is accepted the reading stands behind it.
+-- The line at a place, after what stands before it. Where it is accepted the reading stands behind it, in the next line.
 pub record LineAccepted (text : List ℕ) (place : Cursor) (b : Before) (r : Line) : Type 0 where
   pub judged : judgedAs b (r .parsed) ≡ accept b (firstItem (drop (place .at) text))
   pub line : refusedLineOr (place .line) (r .parsed) ≡ place .line
   pub within : isRefused (r .parsed) ≡ false → r .next .at ≤ length text
   pub rest : isRefused (r .parsed) ≡ false → drop (r .next .at) text ≡ restOf (drop (place .at) text)
+  pub next-line : isRefused (r .parsed) ≡ false → r .next .line ≡ lineBehind lineFeed (place .line)
 
 -- how many records of its letter stand before what a line holds
 abbrev pub countOf : Standing → Parsed → ℕ

@@ -1,6 +1,7 @@
--- What the walks of `plan` and `plan_part` share: both take the text, the order buffer and the fate buffer, in this order,
--- each at a lifetime of its own. At the return nothing is had of the text; the order buffer is spent, since the part names
--- its lifetime; and of the fate buffer, which was passed on for good, there is what says its last list.
+-- What a walk of `plan`, and of a caller that passes its buffers on to `plan`, stands on: each takes the text, the order
+-- buffer and the fate buffer, in this order, at a lifetime of its own. At the return nothing is had of the text; the order
+-- buffer is spent, since the part names its lifetime; and of the fate buffer, which was passed on for good, there is what
+-- says its last list.
 -- Assumes what `Given` holds.
 use mathlib.Core.List.{List, [], _∷_}
 use mathlib.Core.Path.{refl}

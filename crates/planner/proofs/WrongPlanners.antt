@@ -52,15 +52,23 @@ count-of-less : nth (planning (textWith 2499999999) marked marked .answer .value
 unfolding right planning leavesOf leavesPlan tooSmall
 count-of-less = refl
 
--- 1. "a planner that refuses every table"
-abbrev pub refusesAll : Refusal → ℕ → Planner
-refusesAll why line text order fates = leavesAll why line order fates
-
-pub refuses-all-excluded : (why : Refusal) (line : ℕ) → Keeps (refusesAll why line) → ⊥
-unfolding leavesAll
-refuses-all-excluded why line keeps =
-    refusal-not-0 why
+-- 1. "a planner that refuses every table": whatever number and line it tells for a text and its lent buffers, and whatever it
+-- leaves in them
+pub refuses-all-excluded : (planner : Planner)
+    → ((text order fates : List ℕ) → planner text order fates .answer .number ≡ 0 → ⊥) → Keeps planner → ⊥
+refuses-all-excluded planner refuses keeps =
+    refuses (textWith 2500000000) marked marked
     (ap (λ (a : AfterPlanning). a .answer .number) (keeps (textWith 2500000000) marked marked ∙ left-of-S))
+
+-- as one that leaves all as it was, with number and line of its own making
+abbrev pub refusesAll : ((text order fates : List ℕ) → Refusal) → ((text order fates : List ℕ) → ℕ) → Planner
+refusesAll why line text order fates = leavesAll (why text order fates) (line text order fates) order fates
+
+pub any-refusal-excluded : (why : (text order fates : List ℕ) → Refusal) (line : (text order fates : List ℕ) → ℕ)
+    → Keeps (refusesAll why line) → ⊥
+unfolding leavesAll
+any-refusal-excluded why line =
+    refuses-all-excluded (refusesAll why line) (λ text order fates. refusal-not-0 (why text order fates))
 
 -- 2. "one that gives one plan always": whatever it makes of the buffers, it does not look at the text
 abbrev pub onePlanAlways : (List ℕ → List ℕ → AfterPlanning) → Planner

@@ -1,8 +1,9 @@
 -- What the planner promises.
-use mathlib.Core.List.{List}
+use mathlib.Core.List.{List, _++_}
 use mathlib.Core.Path.{_≡_}
 use Prim.Native.Nat.{ℕ}
 use denote.Ref.{now, ptr}
+use lib.ListN.{drop, length}
 use Rattle.planner.specs.declared.Planned.{Planned}
 use Rattle.rules.specs.Answers.{decisionSays}
 use Rattle.rules.specs.Plan.{partOf, planning}
@@ -15,9 +16,9 @@ pub record PlannedAs (text order fates : List ℕ) (begin : ℕ × ℕ) (r : Pla
   pub decided : decisionSays (r .decision) ≡ planning text order fates .answer
   pub fates-left : fates′ ≡ planning text order fates .fates
 
--- `plan_part`: the same without the decision.
-pub record PartPromised (text order fates : List ℕ) (begin : ℕ × ℕ) (part : List ℕ) (at : ℕ × ℕ) (fates′ : List ℕ)
-    : Type 0 where
-  pub plan : part ≡ partOf (planning text order fates)
+-- `plan_into`, and then `hand_back` of the order buffer that it left: the part, where it begins, and every place of the buffer;
+-- behind the part they are as `plan_into` left them, for `hand_back` stores nothing
+pub record Together (text order fates : List ℕ) (begin : ℕ × ℕ) (order′ part : List ℕ) (at : ℕ × ℕ) : Type 0 where
+  pub part-is : part ≡ partOf (planning text order fates)
   pub begins : at ≡ begin
-  pub fates-left : fates′ ≡ planning text order fates .fates
+  pub every-place : part ++ drop (length part) order′ ≡ planning text order fates .order

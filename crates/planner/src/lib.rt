@@ -8,7 +8,7 @@ use rules::Refusal;
 use rules::Verdict;
 ghost use mathlib.Core.Path.{_≡_};
 ghost use denote.Ref.{ptr};
-ghost use Rattle.planner.specs.Promises.{PartPromised, PlannedAs};
+ghost use Rattle.planner.specs.Promises.{PlannedAs};
 ghost use Rattle.plans.specs.Promises.{leaves};
 ghost use Rattle.rules.specs.Plan.{planning};
 
@@ -46,11 +46,4 @@ pub fn plan<'a>(text: &[u8], order: &'a mut [u64], fates: &mut [u64]) -> Planned
         plan: hand_back(order, decision),
         decision: decision,
     }
-}
-
-// The part alone, for callers who would else need a walk.
-pub fn plan_part<'a>(text: &[u8], order: &'a mut [u64], fates: &mut [u64]) -> &'a mut [u64]
-    ensures { λ r. ⌜ PartPromised (now (text .entry)) (now (order .entry)) (now (fates .entry)) (ptr (order .entry)) (now r) (ptr r) (now (fates .exit)) ⌝ }
-{
-    plan(text, order, fates).plan
 }

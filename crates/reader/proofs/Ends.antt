@@ -13,13 +13,13 @@ use Rattle.laws.proofs.Lines.{items}
 use Rattle.laws.specs.FirstLine.{firstItem}
 use Rattle.records.specs.Standing.{noneStanding}
 use Rattle.records.specs.declared.Standing.{Standing}
-use Rattle.rules.specs.Answers.{readingSays}
 use Rattle.rules.specs.Lists.{empty, no-element}
 use Rattle.rules.specs.Refusals.{accept, andThen, atEnd, itemsIn, nothing, read, reading, refusedFor, tableAnswer, takeFrom}
 use Rattle.rules.specs.TableText.{linesOf, mostJobs, noRecords, partedBy, tableOf}
 use Rattle.rules.specs.declared.Refusal.{Refusal}
 use Rattle.rules.specs.declared.Speed.{Speed}
 use Rattle.rules.specs.declared.Table.{Table}
+use Rattle.text.specs.Fields.{mostLine}
 use Rattle.text.specs.Lines.{refusedLineOr}
 use Rattle.text.specs.declared.Cursor.{Cursor}
 use Rattle.text.specs.declared.Line.{Line}
@@ -28,10 +28,10 @@ use Rattle.lines.specs.Step.{LineAccepted, judgedAs}
 use Rattle.reader.specs.Answer.{doneReading, refusedReading}
 use Rattle.reader.proofs.SoFar.{SoFar, begunWith}
 
-pub at-start : (text : List ℕ)
+pub at-start : (text : List ℕ) → length text ≤ mostLine
     → SoFar text (tableOf noRecords) (replicate mostJobs 0) (replicate mostJobs 0) noneStanding (record { at = 0; line = 1 })
 unfolding tableOf noRecords nothing read
-at-start text = record {
+at-start text counted = record {
   records = noRecords;
   lines = [];
   in-places = refl;
@@ -48,13 +48,14 @@ at-start text = record {
   to-read = refl;
   few-lines = omega arith;
   within = omega arith;
+  counted = counted;
 }
 
 module _ (text : List ℕ) (table : Table) (numbers requests : List ℕ) (before : Standing) (place : Cursor)
     (so-far : SoFar text table numbers requests before place) where
   pub refused-line : place .at < length text → (l : Line)
       → LineAccepted text place (begunWith before (so-far .records)) l → (why : Refusal) (at : ℕ) → l .parsed ≡ Parsed.Refused why at
-      → readingSays (refusedReading why at) ≡ reading text
+      → refusedReading why at ≡ reading text
   unfolding reading tableAnswer takeFrom andThen judgedAs refusedLineOr
   refused-line inside l line why at e =
       let here = begunWith before (so-far .records) in
@@ -72,13 +73,13 @@ module _ (text : List ℕ) (table : Table) (numbers requests : List ℕ) (before
   no-speeds (f ∷ fs) e = absurd (omega arith)
 
   pub no-speed : length text ≤ place .at → before .speeds ≡ 0
-      → readingSays (refusedReading Refusal.Order (place .line)) ≡ reading text
+      → refusedReading Refusal.Order (place .line) ≡ reading text
   unfolding reading tableAnswer atEnd
   no-speed h e =
       let n = ap (λ (s : Standing). s .speeds) (so-far .noted .state) in
       rw (ended h) (rw (no-speeds (so-far .records .speeds) (sym n ∙ e)))
 
-  pub all-read : length text ≤ place .at → (before .speeds ≡ 0 → ⊥) → readingSays (doneReading table before) ≡ reading text
+  pub all-read : length text ≤ place .at → (before .speeds ≡ 0 → ⊥) → doneReading table before ≡ reading text
   unfolding reading tableAnswer atEnd tableOf
   all-read h e =
       let n = ap (λ (s : Standing). s .speeds) (so-far .noted .state) in

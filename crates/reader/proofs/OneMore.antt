@@ -3,7 +3,7 @@
 use mathlib.Core.Bool.{false}
 use mathlib.Core.List.{List}
 use mathlib.Core.Path.{_≡_, refl, sym, ap, _∙_}
-use Prim.Native.Nat.{ℕ, _+_, _<_}
+use Prim.Native.Nat.{ℕ, _<_}
 use native.Mathlib.Omega.{arith}
 use lib.ListN.{length, set, length-set}
 use Rattle.columns.specs.Columns.{Column}
@@ -57,9 +57,6 @@ module _ (text : List ℕ) (table : Table) (numbers requests : List ℕ) (before
   abbrev at-line : Before
   at-line = begunWith before (so-far .records)
 
-  abbrev behind : Cursor
-  behind = record { at = l .next .at; line = place .line + 1 }
-
   speeds-noted : before .speeds ≡ length (so-far .records .speeds)
   speeds-noted = ap (λ (s : Standing). s .speeds) (so-far .noted .state)
 
@@ -82,7 +79,7 @@ module _ (text : List ℕ) (table : Table) (numbers requests : List ℕ) (before
       → length ns ≡ mostJobs → length qs ≡ mostJobs
       → Column (λ j. j .number) (added (so-far .records) r .jobs) ns
       → Column (λ j. j .request) (added (so-far .records) r .jobs) qs
-      → SoFar text t ns qs (standingOf (withMore at-line r)) behind
+      → SoFar text t ns qs (standingOf (withMore at-line r)) (l .next)
   more r e in-places whole-ns whole-qs column-ns column-qs =
       let m = moved-by r e in
       record {
@@ -96,10 +93,11 @@ module _ (text : List ℕ) (table : Table) (numbers requests : List ℕ) (before
         to-read = m .to-read;
         few-lines = m .few-lines;
         within = m .within;
+        counted = so-far .counted;
       }
 
   pub clock-more : (clock budget : ℕ) → l .parsed ≡ Parsed.Clock clock budget
-      → SoFar text (clockStored table clock budget) numbers requests (afterClock before) behind
+      → SoFar text (clockStored table clock budget) numbers requests (afterClock before) (l .next)
   unfolding added
   clock-more clock budget e =
       rw (ap afterClock (so-far .noted .state) ∙ sym (clock-after at-line clock budget))
@@ -112,7 +110,7 @@ module _ (text : List ℕ) (table : Table) (numbers requests : List ℕ) (before
       omega (arith, fits (moved-by (Record.F f) e .reached) .speeds, length-more (so-far .records .speeds) f, speeds-noted)
 
   pub speed-more : (f : Speed) → l .parsed ≡ Parsed.Speed f
-      → SoFar text (speedStored table (before .speeds) f) numbers requests (afterSpeed before f) behind
+      → SoFar text (speedStored table (before .speeds) f) numbers requests (afterSpeed before f) (l .next)
   unfolding added
   speed-more f e =
       let fs = so-far .records .speeds in
@@ -127,7 +125,7 @@ module _ (text : List ℕ) (table : Table) (numbers requests : List ℕ) (before
       omega (arith, fits (moved-by (Record.J j) e .reached) .jobs, length-more (so-far .records .jobs) j, jobs-noted)
 
   pub job-more : (j : Job) → l .parsed ≡ Parsed.Job j
-      → SoFar text (jobStored table (before .jobs) j) (set numbers (before .jobs) (j .number)) (set requests (before .jobs) (j .request)) (afterJob before j) behind
+      → SoFar text (jobStored table (before .jobs) j) (set numbers (before .jobs) (j .number)) (set requests (before .jobs) (j .request)) (afterJob before j) (l .next)
   unfolding added
   job-more j e =
       let js = so-far .records .jobs in
@@ -145,7 +143,7 @@ module _ (text : List ℕ) (table : Table) (numbers requests : List ℕ) (before
       omega (arith, fits (moved-by (Record.H h) e .reached) .holds, length-more (so-far .records .holds) h, holds-noted)
 
   pub hold-more : (h : Hold) → l .parsed ≡ Parsed.Hold h
-      → SoFar text (holdStored table (before .holds) h) numbers requests (afterHold before h) behind
+      → SoFar text (holdStored table (before .holds) h) numbers requests (afterHold before h) (l .next)
   unfolding added
   hold-more h e =
       let hs = so-far .records .holds in

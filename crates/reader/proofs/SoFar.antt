@@ -6,21 +6,23 @@ use mathlib.Core.List.{List, [], _∷_, _++_}
 use mathlib.Core.Path.{_≡_, refl, sym, ap, _∙_}
 use Prim.Native.Nat.{ℕ, zero, suc, _+_, _-_, _≤_, _<_}
 use native.Mathlib.Omega.{arith}
+use borrow.Author.Tests.{lt-ltb}
 use lib.ListN.{length, drop, set, replicate, length-drop}
 use lib.Seq.{append-snoc, set-at}
 use Rattle.columns.specs.Columns.{Column}
 use Rattle.laws.proofs.Accepted.{Standing as Reachable, clock-read, nothing-read, reached-standing, valid}
 use Rattle.laws.proofs.Elements.{length-more}
-use Rattle.laws.proofs.Lines.{items, rest-shorter}
+use Rattle.laws.proofs.Lines.{items, record-rest, rest-shorter}
 use Rattle.laws.proofs.Stopped.{after, at-once}
 use Rattle.laws.proofs.Trips.{valid-few-holds}
-use Rattle.laws.specs.FirstLine.{firstItem}
+use Rattle.laws.specs.FirstLine.{firstItem, restOf}
 use Rattle.records.specs.declared.Standing.{Standing}
 use Rattle.rules.specs.Lists.{Rising, no-element}
-use Rattle.rules.specs.Refusals.{Before, accept, accepted, added, andThen, itemsIn, nothing, read, takeFrom}
+use Rattle.rules.specs.Refusals.{Before, Item, accept, accepted, added, andThen, bad, itemsIn, nothing, one, read, takeFrom}
 use Rattle.rules.specs.TableText.{Record, Records, linesOf, mostHolds, mostJobs, mostSpeeds, noHold, noJob, noRecords, noSpeed, padded}
 use Rattle.rules.specs.declared.Job.{Job}
 use Rattle.rules.specs.declared.Table.{Table}
+use Rattle.text.specs.Fields.{lineBehind, mostLine}
 use Rattle.text.specs.Lines.{isRefused}
 use Rattle.text.specs.declared.Cursor.{Cursor}
 use Rattle.text.specs.declared.Line.{Line}
@@ -51,8 +53,9 @@ pub record SoFar (text : List ℕ) (table : Table) (numbers requests : List ℕ)
   pub numbers-whole : length numbers ≡ mostJobs
   pub requests-whole : length requests ≡ mostJobs
   pub to-read : read text ≡ takeFrom (place .line) (begunWith before records) (itemsIn (linesOf (drop (place .at) text)))
-  pub few-lines : place .line ≤ place .at + 1
+  pub few-lines : place .line + place .line ≤ place .at + 2
   pub within : place .at ≤ length text
+  pub counted : length text ≤ mostLine
 
 -- the records of any state that is reached fit their places, and their numbers rise
 pub record Fit (b : Before) : Type 0 where
@@ -103,19 +106,36 @@ module _ (text : List ℕ) (table : Table) (numbers requests : List ℕ) (before
   pub record Moved (next : Before) : Type 0 where
     pub lines : List Record
     pub reached : Reachable next lines
-    pub to-read : read text ≡ takeFrom (place .line + 1) next (itemsIn (linesOf (drop (l .next .at) text)))
-    pub few-lines : place .line + 1 ≤ l .next .at + 1
+    pub to-read : read text ≡ takeFrom (l .next .line) next (itemsIn (linesOf (drop (l .next .at) text)))
+    pub few-lines : l .next .line + l .next .line ≤ l .next .at + 2
     pub within : l .next .at ≤ length text
+
+  -- a line that is accepted is a letter, a tab and more, so that no text has more lines than can be counted
+  two-bytes : (i : Item) (next : Before) → firstItem (drop (place .at) text) ≡ i → accept here i ≡ accepted next
+      → length (restOf (drop (place .at) text)) + 2 ≤ length (drop (place .at) text)
+  unfolding accept
+  two-bytes (one r) next e h = record-rest (drop (place .at) text) r e
+  two-bytes (bad why) next e h = let z : _≡_ {A = ℕ} 0 1 = cc in absurd (omega arith)
+
+  next-counted : isRefused (l .parsed) ≡ false → l .next .line ≡ place .line + 1
+  unfolding lineBehind
+  next-counted good =
+      line .next-line good
+      ∙ rw (lt-ltb (place .line) mostLine (omega (arith, so-far .few-lines, so-far .within, so-far .counted)))
 
   pub moved : (next : Before) → isRefused (l .parsed) ≡ false → judgedAs here (l .parsed) ≡ accepted next → Moved next
   unfolding takeFrom andThen
   moved next good e =
       let step : accept here (firstItem (drop (place .at) text)) ≡ accepted next = sym (line .judged) ∙ e in
       let (rs, same, stands) = reached-standing (so-far .reached) (after step at-once) in
+      let shorter = two-bytes (firstItem (drop (place .at) text)) next refl step in
       record {
         lines = so-far .lines ++ rs;
         reached = stands;
-        to-read = so-far .to-read ∙ rw (items (drop (place .at) text) remains) (rw step (rw (← line .rest good)));
-        few-lines = omega (arith, goes-on good);
+        to-read =
+            so-far .to-read
+            ∙ rw (items (drop (place .at) text) remains) (rw step (rw (← line .rest good) (rw (next-counted good))));
+        few-lines =
+            omega (arith, next-counted good, so-far .few-lines, shorter, ap length (line .rest good), length-drop (place .at) text, length-drop (l .next .at) text, line .within good);
         within = line .within good;
       }

@@ -1,20 +1,20 @@
 -- The two answers that reading comes to.
+use mathlib.Core.List.{[]}
 use Prim.Native.Nat.{ℕ}
 use Rattle.records.specs.declared.Standing.{Standing}
+use Rattle.rules.specs.Answers.{TableAnswer, good, refused}
 use Rattle.rules.specs.TableText.{noRecords, tableOf}
-use Rattle.rules.specs.declared.Reading.{Reading}
 use Rattle.rules.specs.declared.Refusal.{Refusal}
 use Rattle.rules.specs.declared.Table.{Table}
-use Rattle.rules.specs.declared.Verdict.{Verdict}
 
 -- a refused text's answer: "a table without records"
-abbrev pub refusedReading : Refusal → ℕ → Reading
-refusedReading why line = record { verdict = Verdict.Refused why line; table = tableOf noRecords }
+abbrev pub refusedReading : Refusal → ℕ → TableAnswer
+refusedReading why line = record { answer = refused why line []; table = tableOf noRecords }
 
 -- a good text's answer: the table with the counts of the state
-abbrev pub doneReading : Table → Standing → Reading
+abbrev pub doneReading : Table → Standing → TableAnswer
 doneReading t s = record {
-  verdict = Verdict.Done;
+  answer = good [];
   table =
       record {
         clock = t .clock;

@@ -47,7 +47,7 @@ fn no_records() -> Table
 
 // A refused text's answer.
 fn refused(why: Refusal, line: u64) -> Reading
-    ensures { λ r. ⌜ r ≡ refusedReading why line ⌝ }
+    ensures { λ r. ⌜ readingSays r ≡ refusedReading why line ⌝ }
 {
     let table = no_records();
     Reading {
@@ -58,7 +58,7 @@ fn refused(why: Refusal, line: u64) -> Reading
 
 // A good text's answer: the records that were stored, with their counts.
 fn done(table: Table, before: Standing) -> Reading
-    ensures { λ r. ⌜ r ≡ doneReading table before ⌝ }
+    ensures { λ r. ⌜ readingSays r ≡ doneReading table before ⌝ }
 {
     let mut counted = table;
     counted.speed_count = before.speeds;
@@ -84,10 +84,7 @@ pub fn read(text: &[u8]) -> Reading
         let parsed = line.parsed;
         let n = lines::count_of(before, parsed);
         before = lines::after(before, parsed);
-        place = Cursor {
-            at: line.next.at,
-            line: place.line + 1,
-        };
+        place = line.next;
         match parsed {
             Parsed::Clock(clock, budget) => {
                 table.clock = clock;

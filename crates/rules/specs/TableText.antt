@@ -1,5 +1,5 @@
 -- Document 01, "The table text": what a number, a line and a record are, their ranges, and a table's text.
-use mathlib.Core.Bool.{Bool, false, cond, not, _&&_}
+use mathlib.Core.Bool.{Bool, false, cond, not, _&&_, _||_}
 use mathlib.Core.List.{List, [], _∷_, _++_, map}
 use mathlib.Core.Option.{Option, none, some}
 use Prim.Native.Nat.{ℕ, zero, suc, _+_, _-_, _*_, _/_, _%_, _^_}
@@ -32,6 +32,10 @@ letterJ = 74
 
 abbrev pub letterH : ℕ
 letterH = 72
+
+-- a letter of one of the four records
+unfoldable pub isLetter : ℕ → Bool
+isLetter b = eqb b letterT || eqb b letterF || eqb b letterJ || eqb b letterH
 
 -- a byte put at the front of the first part
 unfoldable pub ontoFirst : ℕ → List (List ℕ) → List (List ℕ)

@@ -6,10 +6,11 @@ use Prim.Native.Nat.{_≤_}
 use lib.ListN.{length}
 use Rattle.rules.specs.Lists.{Each, Rising, any}
 use Rattle.rules.specs.Refusals.{asksOwn, isHolder}
-use Rattle.rules.specs.TableText.{Record, Records, inRange, mostJobs, mostSpeeds}
+use Rattle.rules.specs.TableText.{Record, Records, inRange, mostHolds, mostJobs, mostSpeeds}
 use Rattle.rules.specs.declared.Speed.{Speed}
 use Rattle.rules.specs.declared.Job.{Job}
 use Rattle.rules.specs.declared.Hold.{Hold}
+use Rattle.rules.specs.declared.Table.{Table}
 
 pub record Valid (r : Records) : Type 0 where
   -- every number is in its range
@@ -31,3 +32,9 @@ pub record Valid (r : Records) : Type 0 where
   -- each holder is in the table, and does not request what it holds; so there is an H "only if there is a J"
   pub holders-known : Each (λ h. any (isHolder h) (r .jobs) ≡ true) (r .holds)
   pub none-asks-own : Each (λ h. any (asksOwn h) (r .jobs) ≡ false) (r .holds)
+
+-- No count is "beyond the table's places".
+pub record WithinPlaces (t : Table) : Type 0 where
+  pub speeds-fit : t .«speed_count» ≤ mostSpeeds
+  pub jobs-fit : t .«job_count» ≤ mostJobs
+  pub holds-fit : t .«hold_count» ≤ mostHolds

@@ -3,17 +3,19 @@
 //
 // An argument names a report and a table of data/, as `list:S`:
 // - `list`: the listing, as the program prints it.
-// - `plan`: `plan_into`, `plan_part` and `plan`, each with the whole of both marked buffers afterwards.
+// - `plan`: `plan_into`, then `plan_into` and `hand_back`, then `plan`, each with the whole of both marked buffers afterwards.
 // - `room`: `plan_into`, `list` and `write` with as many places as they need, and with one fewer.
 // - `text`: the table read and written again.
 // - `bent`: the table with its records or counts made wrong, and written.
 // - `head`: the first line alone, as the box's front end reads it.
+// - `walk`: every field, as the box's front end walks the text, with the line that it stands in.
 // Then come the cycles to allocate and the supplied costs, by number.
 //
 // A buffer is marked before it is lent, so that what a call leaves alone shows its mark. What the calls promise is proved of
 // them; of what a program prints no contract can speak, and so the report is compared.
 mod again;
 mod bent;
+mod fields;
 mod head;
 mod leaves;
 mod plan;
@@ -44,6 +46,7 @@ fn run(letter: u8, text: &[u8]) {
         b't' => again::read_and_write(text),
         b'b' => bent::each_way(text),
         b'h' => head::first_line(text),
+        b'w' => fields::every_field(text),
         _ => put(b"no such report\n"),
     }
 }

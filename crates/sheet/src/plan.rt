@@ -1,4 +1,4 @@
-// The planner's three calls, with marked buffers that are longer than it needs.
+// The planner's calls in three ways, with marked buffers that are longer than it needs.
 use crate::report::put_decision;
 use crate::report::put_numbers;
 use crate::report::put_part_name;
@@ -6,7 +6,7 @@ use rules::Decision;
 ghost use Prim.Native.Nat.{_≤_};
 ghost use mathlib.Core.Path.{_≡_};
 ghost use denote.Ref.{ptr};
-ghost use Rattle.planner.specs.Promises.{PartPromised};
+ghost use Rattle.rules.specs.Plan.{partOf, planning};
 
 const MARK: u64 = 7;
 
@@ -29,11 +29,12 @@ pub(crate) fn plan_into_places(text: &[u8], order_places: usize, fate_places: us
     put_buffers(&order, &fates);
 }
 
-// `plan_part`: the part, and then the whole buffers.
-fn plan_part(text: &[u8]) {
+// `plan_into`, and then `hand_back`: the part, and then the whole buffers.
+fn plan_handed_back(text: &[u8]) {
     let mut order = [MARK; PLACES];
     let mut fates = [MARK; PLACES];
-    let part = planner::plan_part(text, &mut order, &mut fates);
+    let decision = planner::plan_into(text, &mut order, &mut fates);
+    let part = handing::hand_back(&mut order, decision);
     put_numbers(b"part", part);
     put_buffers(&order, &fates);
 }
@@ -49,7 +50,7 @@ fn put_planned<'a>(part: &'a mut [u64], decision: Decision) -> &'a mut [u64]
 
 // What `plan` answers, the part and the decision together.
 fn plan_together<'a>(text: &[u8], order: &'a mut [u64], fates: &mut [u64]) -> &'a mut [u64]
-    ensures { λ r. ⌜ PartPromised (now (text .entry)) (now (order .entry)) (now (fates .entry)) (ptr (order .entry)) (now r) (ptr r) (now (fates .exit)) ⌝ }
+    ensures { λ r. ⌜ (now r ≡ partOf (planning (now (text .entry)) (now (order .entry)) (now (fates .entry)))) × (ptr r ≡ ptr (order .entry)) ⌝ }
 {
     let planned = planner::plan(text, order, fates);
     put_planned(planned.plan, planned.decision)
@@ -66,8 +67,8 @@ fn plan(text: &[u8]) {
 pub(crate) fn all_three(text: &[u8]) {
     put_part_name(b"plan_into");
     plan_into_places(text, PLACES, PLACES);
-    put_part_name(b"plan_part");
-    plan_part(text);
+    put_part_name(b"plan_into, hand_back");
+    plan_handed_back(text);
     put_part_name(b"plan");
     plan(text);
 }

@@ -1,3 +1,5 @@
 pub mod Numbers
+pub mod Told
 pub mod Rows
 pub mod Records
+pub mod FieldPlaces

@@ -2,12 +2,12 @@
 -- reading place moves on with each field taken."
 use mathlib.Core.Path.{_≡_}
 use mathlib.Core.Bool.{Bool, cond, not, _&&_, _||_}
-use mathlib.Core.List.{List, [], _∷_}
+use mathlib.Core.List.{List, [], _∷_, _++_}
 use Prim.Native.Nat.{ℕ, _+_, _≤_}
 use lib.Dec.{leb, ltb, eqb}
 use lib.ListN.{length, getD, drop}
-use Rattle.rules.specs.TableText.{digitZero, isDigit, isNumber, mostDigits, tab, valueFrom}
-use Rattle.rules.specs.declared.Field.{Field}
+use Rattle.rules.specs.Answers.{Answer, fieldSays, good, refused}
+use Rattle.rules.specs.TableText.{digitZero, isDigit, isLetter, isNumber, lineFeed, mostDigits, tab, valueFrom}
 use Rattle.rules.specs.declared.Refusal.{Refusal}
 use Rattle.text.specs.declared.Cursor.{Cursor}
 use Rattle.text.specs.declared.Pair.{Pair}
@@ -33,41 +33,67 @@ standsAt text at b = ltb at (length text) && eqb (getD text at 0) b
 unfoldable pub shaped : ℕ → ℕ → Bool
 shaped count first = not (eqb count 0) && leb count mostDigits && (not (eqb first digitZero) || leb count 1)
 
--- the reading place behind the byte at `at`
-abbrev pub behindByte : ℕ → Cursor → Cursor
-behindByte at place = record { at = at + 1; line = place .line }
+-- What is told of fields that stand at a place: their values, or number and line of the refusal; and the place behind them.
+pub record FieldsTold : Type 0 where
+  pub says : Answer
+  pub next : Cursor
 
--- a refused field leaves the reading place where it was
-abbrev pub refusedField : Cursor → Taken
-refusedField place = record { field = Field.Refused Refusal.Shape (place .line); next = place }
+-- a field that is taken, in document 01's numbers
+abbrev pub takenSays : Taken → FieldsTold
+takenSays taken = record { says = fieldSays (taken .field); next = taken .next }
+
+-- The line behind the byte that ends a field: behind a line feed it is the next. The greatest number of a line stays; no
+-- text has as many lines.
+abbrev pub mostLine : ℕ
+mostLine = 18446744073709551615
+
+unfoldable pub lineBehind : ℕ → ℕ → ℕ
+lineBehind end line = cond (eqb end lineFeed && ltb line mostLine) (line + 1) line
+
+-- the reading place behind the byte `end`, which stands at `at`
+abbrev pub behindByte : ℕ → ℕ → Cursor → Cursor
+behindByte end at place = record { at = at + 1; line = lineBehind end (place .line) }
+
+-- the refusal of its line; the reading place stays where it was
+abbrev pub refusedField : Cursor → FieldsTold
+refusedField place = record { says = refused Refusal.Shape (place .line) []; next = place }
 
 -- the digits at a place, if they are a number and the byte `end` stands behind them
-abbrev pub numberWith : List ℕ → Cursor → ℕ → List ℕ → Taken
+abbrev pub numberWith : List ℕ → Cursor → ℕ → List ℕ → FieldsTold
 numberWith text place end digits =
     cond (isNumber digits && standsAt text (place .at + length digits) end)
-    (record { field = Field.Number (valueFrom 0 digits); next = behindByte (place .at + length digits) place })
+    (record { says = good (valueFrom 0 digits ∷ []); next = behindByte end (place .at + length digits) place })
     (refusedField place)
 
 -- the number that stands at a place and is ended by the byte `end`
-unfoldable pub numberAt : List ℕ → Cursor → ℕ → Taken
+unfoldable pub numberAt : List ℕ → Cursor → ℕ → FieldsTold
 numberAt text place end = numberWith text place end (front (drop (place .at) text))
 
--- the byte that stands at a place alone before a tab
-unfoldable pub letterAt : List ℕ → Cursor → Taken
+-- the letter of a record that stands at a place alone before a tab
+unfoldable pub letterAt : List ℕ → Cursor → FieldsTold
 letterAt text place =
-    cond (standsAt text (place .at + 1) tab)
-    (record { field = Field.Number (getD text (place .at) 0); next = behindByte (place .at + 1) place })
+    cond (standsAt text (place .at + 1) tab && isLetter (getD text (place .at) 0))
+    (record { says = good (getD text (place .at) 0 ∷ []); next = behindByte tab (place .at + 1) place })
     (refusedField place)
 
--- what follows a field: something with its number, or the refusal of its line
-abbrev pub afterField : Field → Pair → (ℕ → Pair) → Pair
-afterField (Field.Number n) refused go = go n
-afterField (Field.Refused why line) refused go = refused
+-- two numbers that are taken from a place, in document 01's numbers; the refused ones leave the place where it was
+abbrev pub pairSays : Cursor → Pair → FieldsTold
+pairSays place (Pair.Both a b next) = record { says = good (a ∷ b ∷ []); next = next }
+pairSays place (Pair.Refused why line) = record { says = refused why line []; next = place }
+
+-- number 0: nothing is refused
+abbrev pub isGood : FieldsTold → Bool
+isGood told = eqb (told .says .number) 0
+
+-- what is told of a field and of the one behind it: their values, or the refusal of the line that they begin in
+abbrev pub bothTold : Cursor → FieldsTold → FieldsTold → FieldsTold
+bothTold place first second =
+    cond (isGood first && isGood second)
+    (record { says = good (first .says .values ++ second .says .values); next = second .next })
+    (refusedField place)
 
 -- two numbers, the first ended by a tab and the second by the byte `end`
-unfoldable pub twoNumbersAt : List ℕ → Cursor → ℕ → Pair
+unfoldable pub twoNumbersAt : List ℕ → Cursor → ℕ → FieldsTold
 twoNumbersAt text place end =
     let first = numberAt text place tab in
-    let second = numberAt text (first .next) end in
-    let refused = Pair.Refused Refusal.Shape (place .line) in
-    afterField (first .field) refused (λ a. afterField (second .field) refused (λ b. Pair.Both a b (second .next)))
+    bothTold place first (numberAt text (first .next) end)

@@ -1,7 +1,7 @@
 -- One line of a text, read by its letter and its numbers: what it holds, and where the reading stands behind it.
 use mathlib.Core.Path.{_≡_}
-use mathlib.Core.Bool.{Bool, true, false}
-use mathlib.Core.List.{List, [], _∷_}
+use mathlib.Core.Bool.{Bool, true, false, cond}
+use mathlib.Core.List.{List, _++_}
 use mathlib.Core.Option.{Option, none, some}
 use Prim.Native.Nat.{ℕ, zero, suc, _≤_}
 use lib.ListN.{length, drop}
@@ -9,10 +9,9 @@ use Rattle.rules.specs.TableText.{Record, lineFeed, recordOf, tab}
 use Rattle.rules.specs.Refusals.{Item, bad, one}
 use Rattle.rules.specs.declared.Refusal.{Refusal}
 use Rattle.laws.specs.FirstLine.{firstItem, restOf}
-use Rattle.text.specs.Fields.{twoNumbersAt}
+use Rattle.text.specs.Fields.{FieldsTold, isGood, lineBehind, twoNumbersAt}
 use Rattle.text.specs.declared.Cursor.{Cursor}
 use Rattle.text.specs.declared.Line.{Line}
-use Rattle.text.specs.declared.Pair.{Pair}
 use Rattle.text.specs.declared.Parsed.{Parsed}
 
 -- numbers that were read in a row, and the reading place behind them
@@ -20,21 +19,20 @@ pub record Row : Type 0 where
   pub numbers : List ℕ
   pub next : Cursor
 
--- what follows two numbers: a row that they begin, or none
-abbrev pub afterPair : Pair → (ℕ → ℕ → Cursor → Option Row) → Option Row
-afterPair (Pair.Both a b next) go = go a b next
-afterPair (Pair.Refused why line) go = none
+-- what follows fields that were read: a row that they begin, or none
+abbrev pub afterFields : FieldsTold → (List ℕ → Cursor → Option Row) → Option Row
+afterFields told go = cond (isGood told) (go (told .says .values) (told .next)) none
 
-abbrev pub onto : ℕ → ℕ → Option Row → Option Row
-onto a b none = none
-onto a b (some row) = some (record { numbers = a ∷ (b ∷ row .numbers); next = row .next })
+abbrev pub onto : List ℕ → Option Row → Option Row
+onto numbers none = none
+onto numbers (some row) = some (record { numbers = numbers ++ row .numbers; next = row .next })
 
 -- the numbers from a place to the end of the line, in pairs: `more` pairs ended by a tab, and one by the line feed
 unfoldable pub pairsAt : ℕ → List ℕ → Cursor → Option Row
 pairsAt zero text place =
-    afterPair (twoNumbersAt text place lineFeed) (λ a b next. some (record { numbers = a ∷ (b ∷ []); next = next }))
+    afterFields (twoNumbersAt text place lineFeed) (λ numbers next. some (record { numbers = numbers; next = next }))
 pairsAt (suc more) text place =
-    afterPair (twoNumbersAt text place tab) (λ a b next. onto a b (pairsAt more text next))
+    afterFields (twoNumbersAt text place tab) (λ numbers next. onto numbers (pairsAt more text next))
 
 -- "1: the line has none of the four shapes", with the number of the line; the reading place is where it was
 abbrev pub refusedLine : Cursor → Line
@@ -79,7 +77,7 @@ isRefused (Parsed.Job j) = false
 isRefused (Parsed.Hold h) = false
 
 -- What reading the line at a place promises. The text from there on begins with the item that was parsed: a record, and
--- then the reading stands behind the line feed; or a refusal, with the line's number, and the reading stands where it was.
+-- then the reading stands behind the line feed, in the next line; or a refusal, with the line's number, and the reading stands where it was.
 -- At the end of the text, or beyond, there is no line: that is refused 1 too.
 pub record LineRead (text : List ℕ) (place : Cursor) (r : Line) : Type 0 where
   pub item : itemOf (r .parsed) ≡ firstItem (drop (place .at) text)
@@ -87,4 +85,4 @@ pub record LineRead (text : List ℕ) (place : Cursor) (r : Line) : Type 0 where
   pub stays : isRefused (r .parsed) ≡ true → r .next ≡ place
   pub within : isRefused (r .parsed) ≡ false → r .next .at ≤ length text
   pub rest : isRefused (r .parsed) ≡ false → drop (r .next .at) text ≡ restOf (drop (place .at) text)
-  pub same-line : isRefused (r .parsed) ≡ false → r .next .line ≡ place .line
+  pub next-line : isRefused (r .parsed) ≡ false → r .next .line ≡ lineBehind lineFeed (place .line)

@@ -2,8 +2,8 @@
 // each call, and the reading place goes by value.
 ghost use mathlib.Core.Path.{_≡_};
 ghost use Prim.Native.Nat.{_+_, _≤_};
-ghost use Rattle.rules.specs.TableText.{letterJ, mostDigits};
-ghost use Rattle.text.specs.Fields.{DigitsRead, front, letterAt, numberAt, refusedField, shaped, twoNumbersAt};
+ghost use Rattle.rules.specs.TableText.{isLetter, letterJ, mostDigits};
+ghost use Rattle.text.specs.Fields.{DigitsRead, front, letterAt, lineBehind, numberAt, pairSays, refusedField, shaped, takenSays, twoNumbersAt};
 ghost use Rattle.text.specs.Lines.{LineRead, lineWith, pairsAt, refusedLine};
 use rules::Field;
 use rules::Hold;
@@ -12,7 +12,7 @@ use rules::Refusal;
 use rules::Speed;
 
 // The letters of the four records.
-const LETTER_T: u64 = 84;
+pub const LETTER_T: u64 = 84;
 
 const LETTER_F: u64 = 70;
 
@@ -22,6 +22,9 @@ const LETTER_H: u64 = 72;
 
 // "at most 16 digits"
 const MOST_DIGITS: usize = 16;
+
+// The greatest number that a line can have.
+const MOST_LINE: u64 = 18446744073709551615;
 
 // The reading place, and the number of the line that it stands in.
 pub struct Cursor {
@@ -56,8 +59,8 @@ pub enum Parsed {
     Refused(Refusal, u64),
 }
 
-// A line's answer, and the reading place behind its line feed, still with this line's number: who reads on counts the
-// lines. Where the line is refused the reading place is where it was.
+// A line's answer, and the reading place behind its line feed, in the next line. Where the line is refused the reading
+// place is where it was.
 pub struct Line {
     pub parsed: Parsed,
     pub next: Cursor,
@@ -110,10 +113,42 @@ fn number_shaped(count: usize, first: u8) -> bool
     true
 }
 
+// The letters of the four records, and no other byte.
+fn is_letter(byte: u8) -> bool
+    ensures { λ r. ⌜ r ≡ isLetter byte ⌝ }
+{
+    if byte == b'T' {
+        return true;
+    }
+    if byte == b'F' {
+        return true;
+    }
+    if byte == b'J' {
+        return true;
+    }
+    if byte == b'H' {
+        return true;
+    }
+    false
+}
+
+// The line behind the byte that ends a field: behind a line feed the next one begins.
+fn line_behind(end: u8, line: u64) -> u64
+    ensures { λ r. ⌜ r ≡ lineBehind end line ⌝ }
+{
+    if end != b'\n' {
+        return line;
+    }
+    if line < MOST_LINE {
+        return line + 1;
+    }
+    line
+}
+
 impl Cursor {
     // The refusal of a field that has not the shape of one.
     fn refused_field(self) -> Taken
-        ensures { λ r. ⌜ r ≡ refusedField self ⌝ }
+        ensures { λ r. ⌜ takenSays r ≡ refusedField self ⌝ }
     {
         Taken {
             field: Field::Refused(Refusal::Shape, self.line),
@@ -123,7 +158,7 @@ impl Cursor {
 
     // The number that stands here and is ended by the byte `end`.
     pub fn number(self, text: &[u8], end: u8) -> Taken
-        ensures { λ r. ⌜ r ≡ numberAt (now (text .entry)) self end ⌝ }
+        ensures { λ r. ⌜ takenSays r ≡ numberAt (now (text .entry)) self end ⌝ }
     {
         let at = self.at;
         if text.len() <= at {
@@ -141,18 +176,19 @@ impl Cursor {
         if text[behind] != end {
             return self.refused_field();
         }
+        let line = line_behind(end, self.line);
         Taken {
             field: Field::Number(run.value),
             next: Cursor {
                 at: behind + 1,
-                line: self.line,
+                line: line,
             },
         }
     }
 
-    // The letter that stands here alone before a tab.
+    // The letter of a record that stands here alone before a tab.
     pub fn letter(self, text: &[u8]) -> Taken
-        ensures { λ r. ⌜ r ≡ letterAt (now (text .entry)) self ⌝ }
+        ensures { λ r. ⌜ takenSays r ≡ letterAt (now (text .entry)) self ⌝ }
     {
         let at = self.at;
         if text.len() <= at {
@@ -165,9 +201,12 @@ impl Cursor {
         if text[behind] != b'\t' {
             return self.refused_field();
         }
-        let byte = text[at] as u64;
+        let byte = text[at];
+        if !is_letter(byte) {
+            return self.refused_field();
+        }
         Taken {
-            field: Field::Number(byte),
+            field: Field::Number(byte as u64),
             next: Cursor {
                 at: behind + 1,
                 line: self.line,
@@ -177,7 +216,7 @@ impl Cursor {
 
     // Two numbers, the first ended by a tab and the second by the byte `end`.
     fn two_numbers(self, text: &[u8], end: u8) -> Pair
-        ensures { λ r. ⌜ r ≡ twoNumbersAt (now (text .entry)) self end ⌝ }
+        ensures { λ r. ⌜ pairSays self r ≡ twoNumbersAt (now (text .entry)) self end ⌝ }
     {
         let first_taken = self.number(text, b'\t');
         let first_field = first_taken.field;

@@ -1,74 +1,122 @@
--- `front::clock_and_budget` meets its contract: the empty text has no line; else line 1 is judged as the rules judge it after
--- nothing, and what they accept there is a T. Assumes nothing.
-use mathlib.Core.List.{[], _∷_}
-use mathlib.Core.Path.{_≡_, refl, sym, ap, _∙_}
+-- `front::clock_and_budget` meets its contract: the empty text has no line; else what the reader takes of line 1 is what the
+-- line's item is made of, and a line that begins with another letter is judged by `line_one`. Assumes nothing.
+use mathlib.Core.Path.{_≡_, ap, _∙_}
 use Prim.Native.Nat.{_<_}
-use denote.Enum.Declared.{tagOf}
-use lib.ListN.{length}
-use types.Run.{OneOf, miss}
 use native.Mathlib.Omega.{arith}
+use lib.ListN.{length}
+use Rattle.rules.specs.TableText.{letterT}
+use Rattle.rules.specs.declared.Field.{Field}
+use Rattle.front.proofs.FirstLine.{both-numbers-one, no-budget-one, no-clock-one, no-letter-one, no-line}
 use borrow.Author.Needs.{needs}
-use Rattle.rules.specs.Refusals.{nothing}
-use Rattle.rules.specs.declared.Refusal.{Refusal}
-use Rattle.text.proofs.Parsed as parsed
-use Rattle.text.specs.declared.Parsed.{Parsed}
-use Rattle.front.specs.ClockLine.{clockLineSays, firstLine}
-use Rattle.front.specs.declared.ClockLine.{ClockLine}
-use Rattle.front.proofs.FirstLine.{line-one, lineOne, no-line, nothing-noted}
 use Rattle.front.proofs.clock_and_budget.Statement.{statement}
 use Rattle.front.proofs.clock_and_budget.Tie as tie
-
--- the letters of the last arm
-never-taken : (p : Parsed) → OneOf (1 ∷ 2 ∷ 3 ∷ []) (tagOf parsed.the-type p) → ClockLine.Refused Refusal.Order 1 ≡ lineOne p
-never-taken (Parsed.Speed f) k = refl
-never-taken (Parsed.Job j) k = refl
-never-taken (Parsed.Hold h) k = refl
-never-taken (Parsed.Clock clock budget) k = absurd (miss (1 ∷ 2 ∷ 3 ∷ []) 0 tt k)
-never-taken (Parsed.Refused why line) k = absurd (miss (1 ∷ 2 ∷ 3 ∷ []) 4 tt k)
 
 returns : tie.Need-returns
 returns c = no-line (c .before .before .args .text .now) (c .if1 .taken)
 
-none-standing-requires : tie.Need-none-standing-requires
-none-standing-requires c κs = search needs
+-- a byte stands there
+some-byte : (c : tie.Else1) → 0 < length (c .before .before .args .text .now)
+some-byte c = omega (arith, c .if1 .left)
 
-accept-line-requires : tie.Need-accept-line-requires
-accept-line-requires c κs = rw (c .before .before .none-standing .ensures) (omega arith)
+take-requires : tie.Need-take-requires
+take-requires c κs = search needs
 
-enum-known-parsed : tie.Need-enum-known-parsed
-enum-known-parsed c = search needs
+enum-known-letter-field : tie.Need-enum-known-letter-field
+enum-known-letter-field c = search needs
 
-enum-known-parsed-2 : tie.Need-enum-known-parsed-2
-enum-known-parsed-2 c = search needs
-
--- line 1, as it is judged after nothing
-judged : (c : tie.After-accept-line)
-    → clockLineSays (lineOne (c .accept-line .result .parsed)) ≡ firstLine (c .before .before .before .before .before .before .args .text .now)
-judged c =
-    let n = c .before .before .before in
-    let text = n .before .before .before .args .text .now in
-    let some-byte : 0 < length text = omega (arith, n .before .if1 .left) in
-    line-one text (c .accept-line .result) some-byte
-    (c .accept-line .ensures nothing (rw (n .none-standing .ensures) nothing-noted))
+enum-told : tie.Need-enum-told
+enum-told c = search needs
 
 returns-2 : tie.Need-returns-2
-returns-2 c = ap (λ p. clockLineSays (lineOne p)) (sym (c .before .parsed .given .1)) ∙ judged (c .before .before .before)
+returns-2 c =
+    let t = c .before .before in
+    let e = t .before in
+    no-letter-one (e .before .before .args .text .now) (some-byte e) (t .take .result) _ _ (t .take .ensures .told) (c .enum-told .given .1)
+
+line-one-requires : tie.Need-line-one-requires
+line-one-requires c κs = some-byte (c .before .before .before .before .before)
 
 returns-3 : tie.Need-returns-3
-returns-3 c = ap (λ p. clockLineSays (lineOne p)) (sym (c .before .parsed2 .given .1)) ∙ judged (c .before .before .before)
+returns-3 c = c .line-one .ensures
+
+-- the letter is a T
+is-clock : (c : tie.Else2) → c .before .before .before .before .take .result .field ≡ Field.Number letterT
+is-clock c = c .before .before .letter-field .given .1 ∙ ap Field.Number (c .if2 .left)
+
+take-requires-2 : tie.Need-take-requires-2
+take-requires-2 c κs = search needs
+
+enum-known-clock-field : tie.Need-enum-known-clock-field
+enum-known-clock-field c = search needs
+
+enum-told-2 : tie.Need-enum-told-2
+enum-told-2 c = search needs
 
 returns-4 : tie.Need-returns-4
-returns-4 c = ap clockLineSays (never-taken (c .before .accept-line .result .parsed) (c .match .keys3)) ∙ judged (c .before)
+returns-4 c =
+    let second = c .before .before in
+    let letter = second .before in
+    let first = letter .before .before .before .before in
+    let e = first .before in
+    no-clock-one (e .before .before .args .text .now) (some-byte e) (first .take .result) (second .take2 .result) (first .take .ensures .told)
+    (is-clock letter) (second .take2 .ensures .told) _ _ (c .enum-told2 .given .1)
+
+take-requires-3 : tie.Need-take-requires-3
+take-requires-3 c κs = search needs
+
+enum-known-budget-field : tie.Need-enum-known-budget-field
+enum-known-budget-field c = search needs
+
+enum-told-3 : tie.Need-enum-told-3
+enum-told-3 c = search needs
+
+returns-5 : tie.Need-returns-5
+returns-5 c =
+    let third = c .before .before in
+    let number = third .before .before in
+    let second = number .before .before in
+    let letter = second .before in
+    let first = letter .before .before .before .before in
+    let e = first .before in
+    no-budget-one (e .before .before .args .text .now) (some-byte e) (first .take .result) (second .take2 .result) (first .take .ensures .told)
+    (is-clock letter) (second .take2 .ensures .told) (third .take3 .result) _ (number .clock-field .given .1) (third .take3 .ensures .told) _ _
+    (c .enum-told3 .given .1)
+
+clock-line-requires : tie.Need-clock-line-requires
+clock-line-requires c κs = search needs
+
+returns-6 : tie.Need-returns-6
+returns-6 c =
+    let last = c .before .before in
+    let third = last .before .before in
+    let number = third .before .before in
+    let second = number .before .before in
+    let letter = second .before in
+    let first = letter .before .before .before .before in
+    let e = first .before in
+    c .clock-line .ensures
+    ∙ both-numbers-one (e .before .before .args .text .now) (some-byte e) (first .take .result) (second .take2 .result)
+    (first .take .ensures .told) (is-clock letter) (second .take2 .ensures .told) (third .take3 .result) _ (number .clock-field .given .1)
+    (third .take3 .ensures .told) _ (last .budget-field .given .1)
 
 pub clock-and-budget-spec : {M : Type 1} → statement M
 clock-and-budget-spec =
     tie.close
     (tie.spec
     returns
-    none-standing-requires
-    accept-line-requires
-    enum-known-parsed
-    enum-known-parsed-2
+    take-requires
+    enum-known-letter-field
+    enum-told
     returns-2
+    line-one-requires
     returns-3
-    returns-4)
+    take-requires-2
+    enum-known-clock-field
+    enum-told-2
+    returns-4
+    take-requires-3
+    enum-known-budget-field
+    enum-told-3
+    returns-5
+    clock-line-requires
+    returns-6)

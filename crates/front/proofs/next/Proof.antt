@@ -33,6 +33,7 @@ use types.Part.{look-in, sub, whole}
 use types.Run.{alloc0, alloc1, and-then, assigns, enter, fld, free0, from, init, land, load, look, no-more, of-opd, params1}
 use types.Run.{pass0, pass1, returns, stop}
 use Rattle.lending.proofs.Steps.{copied, Fits, lets-go}
+use Rattle.rules.specs.Answers.{Answer, fieldSays}
 use Rattle.rules.specs.declared.Field.{Field}
 use Rattle.rules.proofs.Field as F
 use Rattle.rules.proofs.Field.Laws as F′
@@ -71,8 +72,8 @@ module _ {M : Type 1} (𝓤 : URA M) (H : Heap 𝓤) (A : Atoms 𝓤) (W : Given
   fits : Fits (T′.mir (named 0)) reader
   fits = reader-fits κ 𝓤 H A W d is
 
-  abbrev found : Field
-  found = takenBy d k .field
+  abbrev found : Answer
+  found = takenBy d k .says
 
   abbrev passed : Vals next.signature (κ, tt)
   passed = (reader ∷ [], (kindVal k ∷ [], tt))
@@ -106,11 +107,11 @@ module _ {M : Type 1} (𝓤 : URA M) (H : Heap 𝓤) (A : Atoms 𝓤) (W : Given
       ensured 𝓤 H A field-at.ended (field-at.clauses 𝓤 H A mem run) (κ, tt) (d .text, (d .place, (k, tt))) tt r
 
   -- of what the callee ensures, the clause alone: it has no `&mut`, so what is said of last values is dropped
-  said : (r : Field) → ent 𝓤 (callee-said r) (fact 𝓤 (r ≡ found))
+  said : (r : Field) → ent 𝓤 (callee-said r) (fact 𝓤 (fieldSays r ≡ found))
   said r =
-      exE 𝓤 _ (λ ws. snd∗ 𝓤 (sem 𝓤 H A (lasts field-at.ended (κ, tt) (d .text, (d .place, (k, tt))) ws)) (fact 𝓤 (r ≡ found)))
+      exE 𝓤 _ (λ ws. snd∗ 𝓤 (sem 𝓤 H A (lasts field-at.ended (κ, tt) (d .text, (d .place, (k, tt))) ws)) (fact 𝓤 (fieldSays r ≡ found)))
 
-  exits : (r : Field) (u : Val) → r ≡ found
+  exits : (r : Field) (u : Val) → fieldSays r ≡ found
       → ent 𝓤 (⋆ 𝓤 H A (‵ (F.the-row .own r (u ∷ [])) ∷ (‵ (flft κ q) ⊛ ‵ ftrue) ∷ ‵ (Own κ d) ∷ [])) (Post u)
   exits r u e =
       qed W (‵ (F.the-row .own r (u ∷ [])) ∷ (‵ (flft κ q) ⊛ ‵ ftrue) ∷ ‵ (Own κ d) ∷ []) ∵
@@ -137,7 +138,7 @@ module _ {M : Type 1} (𝓤 : URA M) (H : Heap 𝓤) (A : Atoms 𝓤) (W : Given
         use1 W (later (some (λ (r : Field).
         ((‵ (flft κ q) ⊛ ‵ ftrue) ⊛ ‵ (F.the-row .own r (u ∷ []))) ⊛ raw (callee-said r)))) (id⊢ 𝓤 _)
         $ await ! tt $ pick ! (λ r. split ! $ move ! (1 ∷ [])
-        $ use1 W (raw (fact 𝓤 (r ≡ found))) (said r) $ heard ! (r ≡ found) (λ e. split ! $ move ! (1 ∷ [])
+        $ use1 W (raw (fact 𝓤 (fieldSays r ≡ found))) (said r) $ heard ! (fieldSays r ≡ found) (λ e. split ! $ move ! (1 ∷ [])
         -- [the field; the token; what the reader owns; the place; …; the text; …; the kind; …; the reader; …; room; …]
         $ peeks ! F.the-row (Is F.the-row) (shows 𝓤 H A F.the-row) r (u ∷ []) (λ is-field.
         land ! (from ! (stop !)) (init ! 11 refl (EL.lawful F.the-type F′.the-laws 𝓤 H A W tt .typed r _ is-field .0))

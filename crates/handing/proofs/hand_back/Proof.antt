@@ -6,18 +6,16 @@ use borrow.Author.Needs.{needs}
 use lib.Seq.{length-take-le, take-all}
 use Rattle.handing.proofs.hand_back.Statement.{statement}
 use Rattle.handing.proofs.hand_back.Tie as tie
-use Rattle.handing.specs.Count.{countOf}
 
 enum-known-decision : tie.Need-enum-known-decision
 enum-known-decision c = search needs
 
 -- all of a buffer that is shorter than the plan
 returns : tie.Need-returns
-unfolding countOf
 returns c =
     let plan = c .before .before .decision .given in
     let order = c .before .before .before .before .args .order .now in
-    (rw (plan .1) (sym (take-all (plan .0 .0) order (le-of-lt (c .if1 .taken)))), refl)
+    record { part-is = rw (plan .1) (sym (take-all (plan .0 .0) order (le-of-lt (c .if1 .taken)))); begins = refl }
 
 slice-aggregate-result : tie.Need-slice-aggregate-result
 slice-aggregate-result c =
@@ -27,8 +25,7 @@ slice-aggregate-result c =
 
 -- the first count places
 returns-2 : tie.Need-returns-2
-unfolding countOf
-returns-2 c = (rw (c .before .before .before .decision .given .1), refl)
+returns-2 c = record { part-is = rw (c .before .before .before .decision .given .1); begins = refl }
 
 enum-told : tie.Need-enum-told
 enum-told c = search needs
@@ -38,8 +35,7 @@ slice-aggregate-result-2 c = search needs
 
 -- none
 returns-3 : tie.Need-returns-3
-unfolding countOf
-returns-3 c = search needs
+returns-3 c = record { part-is = search needs; begins = refl }
 
 pub hand-back-spec : {M : Type 1} → statement M
 hand-back-spec =

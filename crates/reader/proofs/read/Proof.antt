@@ -21,15 +21,6 @@ use Rattle.reader.proofs.SoFar.{SoFar, begunWith, fits, goes-on}
 use borrow.Author.Needs.{needs}
 use Rattle.reader.proofs.read.Statement.{statement}
 use Rattle.reader.proofs.read.Tie as tie
-use Rattle.reader.proofs.read.Reads as reads
-use Rattle.reader.proofs.read.Lts as lts
-use Rattle.lines.proofs.accept_line.Reads as accept-line-reads
-use Rattle.lines.proofs.after.Reads as after-reads
-use Rattle.lines.proofs.count_of.Reads as count-of-reads
-use Rattle.reader.proofs.done.Reads as done-reads
-use Rattle.reader.proofs.no_records.Reads as no-records-reads
-use Rattle.reader.proofs.refused.Reads as refused-reads
-use Rattle.records.proofs.none_standing.Reads as none-standing-reads
 
 abbrev Inv-loop : tie.InvT-loop
 Inv-loop text table₀ numbers₀ requests₀ before₀ place₀ table numbers requests before place =
@@ -40,7 +31,7 @@ abbrev μ-loop : tie.MeasureT-loop
 
 -- where a line has been judged: the text, the loop's state, the line, and what the line's promise says of it
 abbrev Judged-line : Type 0
-Judged-line = tie.After-struct-known2 Inv-loop μ-loop
+Judged-line = tie.After-place Inv-loop μ-loop
 
 abbrev text-of : Judged-line → List ℕ
 text-of c = c .before .before .before .before .before .before .before .before .before .before .before .before .args .text .now
@@ -94,7 +85,7 @@ none-standing-requires : tie.Need-none-standing-requires Inv-loop μ-loop
 none-standing-requires c κs = search needs
 
 loop-holds : tie.Need-loop-holds Inv-loop μ-loop
-loop-holds c = rw (c .before .no-records .ensures) (rw (c .none-standing .ensures) (at-start (c .before .before .before .args .text .now)))
+loop-holds c = rw (c .before .no-records .ensures) (rw (c .none-standing .ensures) (at-start (c .before .before .before .args .text .now) (omega arith)))
 
 accept-line-requires : tie.Need-accept-line-requires Inv-loop μ-loop
 accept-line-requires c κs =
@@ -109,9 +100,6 @@ after-requires c κs =
     let l = c .before .before .before .before .before .before .loop in
     let f = fits (l .inv .reached) in
     rw (l .inv .noted .state) (f .speeds, f .jobs, f .holds)
-
-add-t22 : tie.Need-add-t22 Inv-loop μ-loop
-add-t22 c = let l = c .before .before .before .before .before .before .before .before .loop in omega (arith, l .inv .few-lines, inside c)
 
 enum-known-parsed : tie.Need-enum-known-parsed Inv-loop μ-loop
 enum-known-parsed c = search needs
@@ -217,8 +205,8 @@ returns c =
     let k = c .before .before .before .before in
     let l = k .before .before .before .before .before .before .before .before .loop in
     let e = c .before .before .parsed5 .given in
-    rw (c .refused .ensures)
-    (refused-line (text-of k) (l .table) (l .numbers) (l .requests) (l .before) (l .place) (l .inv) (inside k) (k .before .before .before .accept-line .result) (line k) (e .0 .0) (e .0 .1 .0) (e .1))
+    c .refused .ensures
+    ∙ (refused-line (text-of k) (l .table) (l .numbers) (l .requests) (l .before) (l .place) (l .inv) (inside k) (k .before .before .before .accept-line .result) (line k) (e .0 .0) (e .0 .1 .0) (e .1))
 
 refused-requires-2 : tie.Need-refused-requires-2 Inv-loop μ-loop
 refused-requires-2 c κs = search needs
@@ -226,8 +214,8 @@ refused-requires-2 c κs = search needs
 returns-2 : tie.Need-returns-2 Inv-loop μ-loop
 returns-2 c =
     let l = c .before .before .before .before .before .loop in
-    rw (c .refused2 .ensures)
-    (no-speed (c .before .before .before .before .before .before .before .before .before .args .text .now) (l .table) (l .numbers) (l .requests) (l .before) (l .place) (l .inv) (c .before .before .before .if1 .left) (c .before .if2 .taken))
+    c .refused2 .ensures
+    ∙ (no-speed (c .before .before .before .before .before .before .before .before .before .args .text .now) (l .table) (l .numbers) (l .requests) (l .before) (l .place) (l .inv) (c .before .before .before .if1 .left) (c .before .if2 .taken))
 
 done-requires : tie.Need-done-requires Inv-loop μ-loop
 done-requires c κs = search needs
@@ -235,8 +223,8 @@ done-requires c κs = search needs
 returns-3 : tie.Need-returns-3 Inv-loop μ-loop
 returns-3 c =
     let l = c .before .before .before .before .before .loop in
-    rw (c .done .ensures)
-    (all-read (c .before .before .before .before .before .before .before .before .before .args .text .now) (l .table) (l .numbers) (l .requests) (l .before) (l .place) (l .inv) (c .before .before .before .if1 .left) (c .before .if2 .left))
+    c .done .ensures
+    ∙ (all-read (c .before .before .before .before .before .before .before .before .before .args .text .now) (l .table) (l .numbers) (l .requests) (l .before) (l .place) (l .inv) (c .before .before .before .if1 .left) (c .before .if2 .left))
 
 pub read-spec : {M : Type 1} → statement M
 read-spec =
@@ -250,7 +238,6 @@ read-spec =
     accept-line-requires
     count-of-requires
     after-requires
-    add-t22
     enum-known-parsed
     loop-less
     loop-again

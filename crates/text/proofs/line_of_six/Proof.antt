@@ -1,8 +1,10 @@
 -- `text::line_of_six` meets its contract: at each `return` what `two_numbers` said of the pairs read so far says which case of
 -- `pairsAt` holds, and the record of six numbers behind a J is the job. Assumes nothing.
-use mathlib.Core.Path.{sym, _∙_}
+use mathlib.Core.Path.{ap, sym, _∙_}
 use Rattle.rules.specs.TableText.{recordOf}
+use Rattle.text.specs.Fields.{pairSays}
 use Rattle.text.specs.Lines.{lineWith, pairsAt}
+use Rattle.text.proofs.Told.{refused-pair}
 use borrow.Author.Needs.{needs}
 use Rattle.text.proofs.line_of_six.Statement.{statement}
 use Rattle.text.proofs.line_of_six.Tie as tie
@@ -21,7 +23,7 @@ refused-line-requires c κs = search needs
 
 returns : tie.Need-returns
 unfolding lineWith pairsAt
-returns c = simp (c .refused-line .ensures, sym (c .before .before .before .two-numbers .ensures) ∙ c .before .enum-told .given .1)
+returns c = simp (c .refused-line .ensures, refused-pair _ _ _ _ _ (c .before .before .before .two-numbers .ensures) (c .before .enum-told .given .1))
 
 two-numbers-requires-2 : tie.Need-two-numbers-requires-2
 two-numbers-requires-2 c κs = search needs
@@ -40,8 +42,8 @@ unfolding lineWith pairsAt
 returns-2 c =
     simp (
       c .refused-line2 .ensures,
-      sym (c .before .before .before .before .before .before .before .two-numbers .ensures) ∙ c .before .before .before .before .before .number .given .1,
-      sym (c .before .before .before .two-numbers2 .ensures) ∙ c .before .enum-told2 .given .1,
+      sym (c .before .before .before .before .before .before .before .two-numbers .ensures) ∙ ap (pairSays _) (c .before .before .before .before .before .number .given .1),
+      refused-pair _ _ _ _ _ (c .before .before .before .two-numbers2 .ensures) (c .before .enum-told2 .given .1),
     )
 
 two-numbers-requires-3 : tie.Need-two-numbers-requires-3
@@ -61,18 +63,18 @@ unfolding lineWith pairsAt
 returns-3 c =
     simp (
       c .refused-line3 .ensures,
-      sym (c .before .before .before .before .before .before .before .before .before .before .before .two-numbers .ensures) ∙ c .before .before .before .before .before .before .before .before .before .number .given .1,
-      sym (c .before .before .before .before .before .before .before .two-numbers2 .ensures) ∙ c .before .before .before .before .before .worth .given .1,
-      sym (c .before .before .before .two-numbers3 .ensures) ∙ c .before .enum-told3 .given .1,
+      sym (c .before .before .before .before .before .before .before .before .before .before .before .two-numbers .ensures) ∙ ap (pairSays _) (c .before .before .before .before .before .before .before .before .before .number .given .1),
+      sym (c .before .before .before .before .before .before .before .two-numbers2 .ensures) ∙ ap (pairSays _) (c .before .before .before .before .before .worth .given .1),
+      refused-pair _ _ _ _ _ (c .before .before .before .two-numbers3 .ensures) (c .before .enum-told3 .given .1),
     )
 
 returns-4 : tie.Need-returns-4
 unfolding lineWith pairsAt recordOf
 returns-4 c =
     simp (
-      sym (c .before .before .before .before .before .before .before .before .before .before .before .two-numbers .ensures) ∙ c .before .before .before .before .before .before .before .before .before .number .given .1,
-      sym (c .before .before .before .before .before .before .before .two-numbers2 .ensures) ∙ c .before .before .before .before .before .worth .given .1,
-      sym (c .before .before .before .two-numbers3 .ensures) ∙ c .before .termination .given .1,
+      sym (c .before .before .before .before .before .before .before .before .before .before .before .two-numbers .ensures) ∙ ap (pairSays _) (c .before .before .before .before .before .before .before .before .before .number .given .1),
+      sym (c .before .before .before .before .before .before .before .two-numbers2 .ensures) ∙ ap (pairSays _) (c .before .before .before .before .before .worth .given .1),
+      sym (c .before .before .before .two-numbers3 .ensures) ∙ ap (pairSays _) (c .before .termination .given .1),
     )
 
 pub line-of-six-spec : {M : Type 1} → statement M

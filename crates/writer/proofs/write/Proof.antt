@@ -1,20 +1,26 @@
 -- `writer::write` meets its contract: the check decides first, then the room, and then the text is put at the front. Assumes
 -- nothing.
-use mathlib.Core.Path.{_≡_, sym, _∙_}
+use mathlib.Core.List.{[]}
+use mathlib.Core.Path.{_≡_, sym, ap, _∙_}
 use native.Mathlib.Omega.{arith}
 use Rattle.checks.proofs.Exactly.{done-exactly, refused-exactly}
+use Rattle.rules.specs.Answers.{verdictSays}
 use Rattle.rules.specs.Refusals.{check, taken}
 use Rattle.rules.specs.TableText.{recordsOf}
+use Rattle.rules.specs.declared.Verdict.{Verdict}
 use Rattle.writer.proofs.Answer.{checked, no-room, refused-answer, text-written}
 use borrow.Author.Needs.{needs}
 use Rattle.writer.proofs.write.Statement.{statement}
 use Rattle.writer.proofs.write.Tie as tie
 
+says : {v w : Verdict} → v ≡ w → verdictSays v [] ≡ verdictSays w []
+says e = ap (λ (v : Verdict). verdictSays v []) e
+
 -- the check is done
 done : (c : tie.After-enum-told) → let t = c .before .before .before .before .args .table in check t ≡ taken (recordsOf t)
 done c =
     let t = c .before .before .before .before .args .table in
-    done-exactly t .0 (sym (c .before .before .check-table .ensures) ∙ c .enum-told .given .1)
+    done-exactly t .0 (sym (says (c .enum-told .given .1)) ∙ c .before .before .check-table .ensures)
 
 check-table-requires : tie.Need-check-table-requires
 check-table-requires c κs = search needs
@@ -28,7 +34,8 @@ returns c =
     let s = k .before .before in
     let g = c .before .verdict .given in
     let t = s .args .table in
-    refused-answer t (s .args .out .now) (g .0 .0) (g .0 .1 .0) (refused-exactly t (g .0 .0) (g .0 .1 .0) .0 (sym (k .check-table .ensures) ∙ g .1))
+    refused-answer t (s .args .out .now) (g .0 .0) (g .0 .1 .0)
+    (refused-exactly t (g .0 .0) (g .0 .1 .0) .0 (sym (says (g .1)) ∙ k .check-table .ensures))
 
 enum-told : tie.Need-enum-told
 enum-told c = search needs

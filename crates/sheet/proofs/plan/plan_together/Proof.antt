@@ -49,10 +49,11 @@ use Rattle.planner.proofs.plan as plan
 use Rattle.planner.proofs.plan.Met as plan-thm
 use Rattle.planner.proofs.plan.Symbol as plan-def
 use Rattle.planner.proofs.plan.Symbol.{name as #planner·plan}
-use Rattle.planner.specs.Promises.{PartPromised, PlannedAs}
+use Rattle.planner.specs.Promises.{PlannedAs}
 use Rattle.planner.specs.declared.Planned.{Planned}
 use Rattle.rules.proofs.Decision as S
 use Rattle.rules.proofs.Decision.Laws as S′
+use Rattle.rules.specs.Plan.{partOf, planning}
 use Rattle.rules.specs.declared.Decision.{Decision}
 use Rattle.sheet.proofs.plan.plan_together as together
 use Rattle.sheet.proofs.plan.plan_together.Code as code
@@ -70,6 +71,10 @@ Left = Unit {0} × (Unit {0} × (List ℕ × Unit {0}))
 -- what `put_planned` says of the part that it hands back
 abbrev Same : RefT (List ℕ) → RefT (List ℕ) → Type 0
 Same lent part = (now part ≡ now lent) × (ptr part ≡ ptr lent)
+
+-- what is promised of the part
+abbrev Part : (text order fates part : RefT (List ℕ)) → Type 0
+Part text order fates part = (now part ≡ partOf (planning (now text) (now order) (now fates))) × (ptr part ≡ ptr order)
 
 module _ {M : Type 1} (𝓤 : URA M) (H : Heap 𝓤) (A : Atoms 𝓤) (mem : Memory → SProp 𝓤) (run : Routine → Fun 𝓤) where
   abbrev Plan : Contract 𝓤
@@ -128,7 +133,7 @@ module _ {M : Type 1} (𝓤 : URA M) (H : Heap 𝓤) (A : Atoms 𝓤) (W : Given
 
   -- the return: the tokens, the part, and what says the last list of the fate buffer
   exits : (part : RefT (List ℕ)) (gs : List ℕ)
-      → PartPromised (t .now) (x .now) (f .now) (x .ptr) (now part) (ptr part) gs → length gs ≡ length (f .now)
+      → Part t x f part → length gs ≡ length (f .now)
       → ent 𝓤 (⋆ 𝓤 H A ((‵ (flft κo qo) ⊛ ‵ ftrue) ∷ ‵ (flft (κs .0) (qs .0)) ∷ (‵ (flft (κs .1 .1 .0) (qs .1 .1 .0)) ⊛ ‵ ftrue)
       ∷ ‵ (MutSlice (named 0) κo u64 .own part (machine part ∷ [])) ∷ ‵ (finally u64 (f .name) gs) ∷ []))
       (Post (machine part))
@@ -144,9 +149,8 @@ module _ {M : Type 1} (𝓤 : URA M) (H : Heap 𝓤) (A : Atoms 𝓤) (W : Given
   -- what `plan` promises, of the part that `put_planned` handed back
   part-promised : (r : Planned) (gs : List ℕ) (part : RefT (List ℕ))
       → PlannedAs (t .now) (x .now) (f .now) (x .ptr) r gs → Same (r .plan) part
-      → PartPromised (t .now) (x .now) (f .now) (x .ptr) (now part) (ptr part) gs
-  part-promised r gs part p same =
-      record { plan = same .0 ∙ p .plan; begins = same .1 ∙ p .begins; fates-left = p .fates-left }
+      → Part t x f part
+  part-promised r gs part p same = (same .0 ∙ p .plan, same .1 ∙ p .begins)
 
   -- the part's machine value has the type of the result
   part-fits : (part : RefT (List ℕ)) (w : Val) → Is (MutSlice (named 0) κo u64) part (w ∷ [])

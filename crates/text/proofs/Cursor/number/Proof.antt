@@ -114,18 +114,21 @@ returns-4 c =
     let e = c .before .before .before .before in
     simp (c .refused-field4 .ensures, ← whole e .0, ne-eqb _ _ (c .before .if4 .taken), and-false)
 
-add-t8 : tie.Need-add-t8
-add-t8 c = omega (arith, within (c .before .before .before))
+line-behind-requires : tie.Need-line-behind-requires
+line-behind-requires c κs = search needs
+
+add-t9 : tie.Need-add-t9
+add-t9 c = omega (arith, within (c .before .before .before .before))
 
 returns-5 : tie.Need-returns-5
 unfolding numberAt
 returns-5 c =
-    let e = c .before .before .before in
+    let e = c .before .before .before .before in
     let a = e .before .before .before .before .before .before .before .args in
     let g = e .before in
     let number = judged g ∙ not-false (g .number-shaped .result) (e .if2 .left) in
     let inside : a .self .at + g .before .before .digits .result .count < length (a .text .now) = omega (arith, within e) in
-    simp (number, ← whole e .0, whole e .1, lt-ltb _ _ inside, eq-eqb _ _ (c .if4 .left))
+    simp (c .line-behind .ensures, number, ← whole e .0, whole e .1, lt-ltb _ _ inside, eq-eqb _ _ (c .before .if4 .left))
 
 pub number-spec : {M : Type 1} → statement M
 number-spec =
@@ -147,5 +150,6 @@ number-spec =
     shared-slice-read-if4
     refused-field-requires-4
     returns-4
-    add-t8
+    line-behind-requires
+    add-t9
     returns-5)
