@@ -1,2 +1,2 @@
-pub mod Says
+mod Says
 pub mod Unique

@@ -1,6 +1,6 @@
 pub mod Walks
-pub mod ChainSums
-pub mod Rings
-pub mod Remaining
-pub mod Holding
+mod ChainSums
+mod Rings
+mod Remaining
+mod Holding
 pub mod Stage

@@ -1,6 +1,6 @@
 pub mod Places
-pub mod Parts
+mod Parts
 pub mod Letters
-pub mod Whole
+mod Whole
 pub mod Exactly
-pub mod Unique
+mod Unique

@@ -1,6 +1,6 @@
-pub mod Trips
-pub mod RulesRefuse
-pub mod Refused
-pub mod Planned
-pub mod Unplanned
-pub mod Demands
+mod Trips
+mod RulesRefuse
+mod Refused
+mod Planned
+mod Unplanned
+mod Demands

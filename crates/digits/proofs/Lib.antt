@@ -1,1 +1,1 @@
-pub mod Left
+mod Left

@@ -1,7 +1,7 @@
-pub mod Held
+mod Held
 pub mod FirstLine
 pub mod WholeText
-pub mod GoesOn
+mod GoesOn
 pub mod LinesCounted
 pub mod FieldsHeld
 pub mod Unique

@@ -12,7 +12,7 @@ use Rattle.laws.proofs.Elements.{each-too}
 use Rattle.laws.proofs.Entries.{is-of, no-entry, trial-has-own, trial-keeps}
 use Rattle.laws.proofs.Jobs.{Listed, one-job, waits-listed}
 use Rattle.laws.proofs.Lookups.{each-first, each-rest, found-each, found-passes}
-use Rattle.laws.proofs.Pairs.{Pairwise, _then_}
+use Rattle.laws.specs.Pairs.{Pairwise, _then_}
 use Rattle.laws.proofs.Rings.{walk-has-ended}
 use Rattle.laws.proofs.Trials.{Ordered, empty-ordered, nobody, trial-ordered}
 use Rattle.laws.proofs.Turns.{OfLeft, Runs, each-runs, none-behind-before, turns-of-left}

@@ -11,7 +11,8 @@ use Rattle.laws.proofs.Choices.{or-absorb, or-front, or-left, or-right,
 use Rattle.laws.proofs.Elements.{each-too}
 use Rattle.laws.proofs.Jobs.{same-as, same-self, same-to}
 use Rattle.laws.proofs.Lookups.{any-agree, any-none, any-place, each-place, found-any-own, none-any, not-found}
-use Rattle.laws.proofs.Pairs.{Pairwise, no-pair, pairs-place, _then_}
+use Rattle.laws.specs.Pairs.{Pairwise, no-pair, _then_}
+use Rattle.laws.proofs.Pairs.{pairs-place}
 use Rattle.rules.specs.Lists.{Each, any, find, none-left, _and_}
 use Rattle.rules.specs.Plan.{Entry, Limited, Turn, begin, goesBefore, inPlan, insert, isOf, member, memberFound, memberNew, memberPlanned, members, remove, same, staysBelow, trial}
 use Rattle.rules.specs.declared.Job.{Job}

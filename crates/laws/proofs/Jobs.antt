@@ -12,7 +12,8 @@ use lib.ListN.{length}
 use Rattle.laws.proofs.Choices.{eqb-swap, nothing-there, one-there, split-option}
 use Rattle.laws.proofs.Elements.{each-too}
 use Rattle.laws.proofs.Lookups.{any-map, each-both, each-keep, find-agree, find-keep-some, found-any, found-each, found-passes, keep-passes, length-map}
-use Rattle.laws.proofs.Pairs.{Pairwise, among, no-pair, pairs-keep, rising-pairs, _then_}
+use Rattle.laws.specs.Pairs.{Pairwise, among, no-pair, _then_}
+use Rattle.laws.proofs.Pairs.{pairs-keep, rising-pairs}
 use Rattle.laws.proofs.Tests.{both-true, within-true}
 use Rattle.laws.proofs.Trips.{valid-few-holds}
 use Rattle.rules.specs.Lists.{Each, find, keep, none-left, _and_}

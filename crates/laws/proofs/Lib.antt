@@ -9,13 +9,13 @@ pub mod DecimalBack
 pub mod LineText
 pub mod Put
 pub mod Parted
-pub mod Parts
+mod Parts
 pub mod PartPlaces
 pub mod LineNumbers
 pub mod Lines
 pub mod Stopped
 pub mod Accepted
-pub mod Written
+mod Written
 pub mod Trips
 pub mod Longest
 pub mod Overwritten
@@ -25,28 +25,28 @@ pub mod Choices
 pub mod Lookups
 pub mod Pairs
 pub mod Sorting
-pub mod Ranks
+mod Ranks
 pub mod Jobs
-pub mod Walks
-pub mod Rings
+mod Walks
+mod Rings
 pub mod Turns
-pub mod Entries
-pub mod Trials
+mod Entries
+mod Trials
 pub mod Course
-pub mod Totals
+mod Totals
 pub mod Speeds
 pub mod Planned
-pub mod Overtaken
-pub mod NotEmpty
-pub mod Outside
-pub mod OutsideValid
+mod Overtaken
+mod NotEmpty
+mod Outside
+mod OutsideValid
 pub mod Demand3
-pub mod Again
+mod Again
 pub mod Tables
-pub mod Demand3Instance
-pub mod Demand3Needed
-pub mod Fates
+mod Demand3Instance
+mod Demand3Needed
+mod Fates
 pub mod Testers
-pub mod TestersInstance
-pub mod NotTrue
+mod TestersInstance
+mod NotTrue
 pub mod ChainRuns

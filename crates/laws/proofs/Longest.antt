@@ -9,6 +9,7 @@ use native.Mathlib.Omega.{arith}
 use borrow.Author.Tests.{ltb-false, ltb-true}
 use lib.Dec.{eqb, ltb}
 use lib.ListN.{length, length-append}
+use Rattle.laws.specs.Longest.{mostBytes}
 use Rattle.laws.proofs.Accepted.{taken-exactly}
 use Rattle.laws.proofs.Decimal.{digitsOf-length}
 use Rattle.laws.proofs.Ranges.{clock-ranges, hold-ranges, job-ranges, speed-ranges}
@@ -135,10 +136,6 @@ text-length r =
     let holds = map Record.H (r .holds) in
     let speeds = map Record.F (r .speeds) in
     rw (length-append (recordText (Record.T (r .clock) (r .budget))) (joined recordText (speeds ++ (jobs ++ holds))), joined-length speeds (jobs ++ holds), joined-length jobs holds)
-
--- "The longest valid text has 3,653 bytes."
-abbrev pub mostBytes : ℕ
-mostBytes = 3653
 
 pub valid-text-length : {r : Records} → Valid r → length (textOf r) ≤ mostBytes
 valid-text-length {r} v =

@@ -15,7 +15,7 @@ use Rattle.laws.proofs.Elements.{each-too}
 use Rattle.laws.proofs.Entries.{planned-as, planned-trial, trial-has-own, trial-keeps}
 use Rattle.laws.proofs.Jobs.{Listed, each-left, jobs-cycles, jobs-listed, left-in-order, listed-has, listed-left, one-job}
 use Rattle.laws.proofs.Lookups.{each-both, each-first, found-each, found-passes}
-use Rattle.laws.proofs.Pairs.{Pairwise, _then_}
+use Rattle.laws.specs.Pairs.{Pairwise, _then_}
 use Rattle.laws.proofs.Planned.{apart, own-turn}
 use Rattle.laws.proofs.Totals.{plan-weight, weight, weight-kept, weight-le, weight-lt, weight-parts}
 use Rattle.laws.proofs.Trials.{Ordered, nobody}

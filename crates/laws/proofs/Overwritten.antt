@@ -7,12 +7,9 @@ use native.Mathlib.Numerals.{add-one}
 use native.Mathlib.Omega.{arith}
 use lib.ListN.{length, take, drop, getD, set, drop-of-length-le}
 use lib.Seq.{take-all}
+use Rattle.laws.specs.Overwritten.{overwritten}
 
 module _ {A : Type 0} where
-  -- the new list up to place i, the old one from there on
-  abbrev pub overwritten : List A → List A → ℕ → List A
-  overwritten new old i = take i new ++ drop i old
-
   -- from the seam on stands what stood
   pub not-overwritten : (new old : List A) (i k : ℕ) (d : A) → i ≤ k → i ≤ length new → i ≤ length old
       → getD (overwritten new old i) k d ≡ getD old k d

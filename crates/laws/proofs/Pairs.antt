@@ -8,18 +8,13 @@ use native.Mathlib.Omega.{arith}
 use borrow.Author.Tests.{eqb-false, eqb-true}
 use lib.Dec.{eqb}
 use lib.ListN.{length}
+use Rattle.laws.specs.Pairs.{Distinct, Pairwise, among, no-pair, _then_}
 use Rattle.laws.proofs.Choices.{split}
 use Rattle.laws.proofs.Elements.{each-map, each-too}
 use Rattle.laws.proofs.Lookups.{each-both, each-keep, each-place}
-use Rattle.rules.specs.Lists.{Each, Rising, any, keep, no-element, none-left, one-element, place, _and_, _below_}
+use Rattle.rules.specs.Lists.{Each, Rising, keep, no-element, none-left, one-element, place, _and_, _below_}
 
 module _ {A : Type 0} where
-  infixr 5 _then_
-  -- any two elements, the earlier first, are in the relation R
-  pub data Pairwise (R : A → A → Type 0) : List A → Type 0 where
-    no-pair : Pairwise R []
-    _then_ : {x : A} {xs : List A} → Each (R x) xs → Pairwise R xs → Pairwise R (x ∷ xs)
-
   pub pairs-too : {P : A → Type 0} {R S : A → A → Type 0} {xs : List A} → ((x y : A) → P x → P y → R x y → S x y)
       → Each P xs
       → Pairwise R xs → Pairwise S xs
@@ -78,13 +73,6 @@ pub pairs-rising : {A : Type 0} {f : A → ℕ} {xs : List A} → Pairwise (λ x
 pairs-rising no-pair = no-element
 pairs-rising (none-left then no-pair) = one-element
 pairs-rising ((l and more) then (r then rs)) = _below_ l (pairs-rising (r then rs))
-
--- n is one of the numbers
-abbrev pub among : List ℕ → ℕ → Bool
-among ns n = any (eqb n) ns
-
-abbrev pub Distinct : List ℕ → Type 0
-Distinct ns = Pairwise (λ m n. eqb m n ≡ false) ns
 
 -- the list, with one n taken out
 withoutOne : ℕ → List ℕ → List ℕ

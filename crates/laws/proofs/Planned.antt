@@ -14,7 +14,8 @@ use Rattle.laws.proofs.Elements.{each-map, each-too}
 use Rattle.laws.proofs.Entries.{is-of, no-entry, out-of-plan, planned-as, trial-has-own}
 use Rattle.laws.proofs.Jobs.{Listed, each-left, jobs-in-order, jobs-listed, left-on-time, left-stays, listed-has, one-job, waits-listed}
 use Rattle.laws.proofs.Lookups.{found-each, found-passes, keep-map, length-map, total-ones}
-use Rattle.laws.proofs.Pairs.{Distinct, Pairwise, no-pair, pairs-map, pairs-too, _then_}
+use Rattle.laws.specs.Pairs.{Distinct, Pairwise, no-pair, _then_}
+use Rattle.laws.proofs.Pairs.{pairs-map, pairs-too}
 use Rattle.laws.proofs.Rings.{no-ring-left}
 use Rattle.laws.proofs.Totals.{plan-weight, weight, weight-agree, weight-kept}
 use Rattle.laws.proofs.Trials.{Ordered, Stand, WaitsNotFor, nobody}

@@ -12,7 +12,7 @@ use Rattle.laws.proofs.Choices.{both-ways, clash, nothing-there, one-th
 use Rattle.laws.proofs.Elements.{each-too}
 use Rattle.laws.proofs.Jobs.{each-of-timely, each-timely, few-holders, holders, jobs-cycles, left-listed, left-stays, one-job, same-self, timely-listed, waited-before, waits-each, waits-left-each, waits-listed, waits-named}
 use Rattle.laws.proofs.Lookups.{all-each, each-all, each-rest}
-use Rattle.laws.proofs.Pairs.{among}
+use Rattle.laws.specs.Pairs.{among}
 use Rattle.laws.proofs.Ranks.{Rank, one-goes-rather, rather, rather-both}
 use Rattle.laws.proofs.Tests.{both-true}
 use Rattle.laws.proofs.Walks.{after-both, last-goes-nowhere, last-step, must-end, nowhere-after, standsAfter, stays-ended, walk-any, walk-each, walk-ended, walk-has, walk-length, walk-met, within-few}

@@ -14,7 +14,8 @@ use Rattle.laws.proofs.Choices.{clash, one-there, split}
 use Rattle.laws.proofs.Course.{Sound, plan-sound}
 use Rattle.laws.proofs.Elements.{each-too}
 use Rattle.laws.proofs.Lookups.{all-each, found-each, found-passes}
-use Rattle.laws.proofs.Pairs.{Pairwise, no-pair, rising-pairs, _then_}
+use Rattle.laws.specs.Pairs.{Pairwise, no-pair, _then_}
+use Rattle.laws.proofs.Pairs.{rising-pairs}
 use Rattle.laws.proofs.Ranges.{speed-ranges}
 use Rattle.laws.proofs.Tests.{both-true}
 use Rattle.rules.specs.Costs.{roundedUp}

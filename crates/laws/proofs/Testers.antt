@@ -16,7 +16,7 @@ use Rattle.laws.proofs.NotEmpty.{not-empty, nothing-requested}
 use Rattle.laws.proofs.Outside.{Alone}
 use Rattle.laws.proofs.OutsideValid.{outside-valid}
 use Rattle.laws.proofs.Overtaken.{TakesIn, lacking, only-five-overtaken, plan-grows, planned-stays, six-stays-true}
-use Rattle.laws.proofs.Pairs.{Distinct}
+use Rattle.laws.specs.Pairs.{Distinct}
 use Rattle.laws.proofs.Planned.{HoldersBefore, each-fated, holders-before, one-exactly-for-planned, plan-counts-ones, planned-once, sound-holders-before}
 use Rattle.laws.proofs.Rings.{OnRing, Reaches, chain-at-most-33, last-waits-for-nobody, no-ring-left, one-leaves-each-ring, taken-only-from-rings}
 use Rattle.laws.proofs.Speeds.{Chosen, energy-in-budget, finish-in-time, plan-speed, planned-end-in-time, top-cost-in-budget}

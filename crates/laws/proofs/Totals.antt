@@ -11,7 +11,7 @@ use Rattle.laws.proofs.Elements.{each-too}
 use Rattle.laws.proofs.Entries.{out-of-plan}
 use Rattle.laws.proofs.Jobs.{InOrder, Listed, same-self, same-swap}
 use Rattle.laws.proofs.Lookups.{total-agree, total-le, total-lt}
-use Rattle.laws.proofs.Pairs.{Pairwise, no-pair, _then_}
+use Rattle.laws.specs.Pairs.{Pairwise, no-pair, _then_}
 use Rattle.rules.specs.Lists.{Each, keep, none-left, total, _and_}
 use Rattle.rules.specs.Plan.{Entry, inPlan, isOf, jobsOf, same}
 use Rattle.rules.specs.declared.Job.{Job}

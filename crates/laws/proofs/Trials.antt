@@ -13,7 +13,8 @@ use Rattle.laws.proofs.Elements.{each-too}
 use Rattle.laws.proofs.Entries.{each-insert, each-remove, has-entry, is-of, no-entry, not-planned, pairs-insert, pairs-remove, planned-as, planned-insert, planned-moved}
 use Rattle.laws.proofs.Jobs.{Listed, one-job, same-as, same-self, same-swap, same-to}
 use Rattle.laws.proofs.Lookups.{each-both, found-each, found-passes}
-use Rattle.laws.proofs.Pairs.{Pairwise, no-pair, pairs-too, _then_}
+use Rattle.laws.specs.Pairs.{Pairwise, no-pair, _then_}
+use Rattle.laws.proofs.Pairs.{pairs-too}
 use Rattle.laws.proofs.Walks.{standsAfter}
 use Rattle.rules.specs.Lists.{Each, find, none-left, _and_}
 use Rattle.rules.specs.Plan.{Entry, Limited, Turn, awaited, begin, follow, inPlan, insert, isOf, member, memberFound, memberNew, memberPlanned, members, remove, same, staysBelow, trial}

@@ -15,7 +15,8 @@ use lib.ListN.{length}
 use Rattle.laws.proofs.Choices.{nothing-there, one-there, split, split-option}
 use Rattle.laws.proofs.Elements.{each-map}
 use Rattle.laws.proofs.Lookups.{any-map, any-none, length-map}
-use Rattle.laws.proofs.Pairs.{Distinct, among, no-longer, no-pair, _then_}
+use Rattle.laws.specs.Pairs.{Distinct, among, no-pair, _then_}
+use Rattle.laws.proofs.Pairs.{no-longer}
 use Rattle.rules.specs.Lists.{Each, any, lastOr, none-left, _and_}
 use Rattle.rules.specs.Plan.{follow, numbersOf}
 use Rattle.rules.specs.declared.Job.{Job}

@@ -1,7 +1,7 @@
-pub mod PairLines
-pub mod Orders
-pub mod Unplanned
-pub mod PlanTexts
+mod PairLines
+mod Orders
+mod Unplanned
+mod PlanTexts
 pub mod LongestListing
-pub mod Listed
+mod Listed
 pub mod Unique

@@ -1,6 +1,6 @@
-pub mod Answers
+mod Answers
 pub mod Unique
 pub mod Together
 pub mod Walks
 pub mod Decisions
-pub mod WrongPlanners
+mod WrongPlanners

@@ -1,10 +1,10 @@
-pub mod Speeds
-pub mod Marks
-pub mod Courses
-pub mod Padding
-pub mod Concluding
-pub mod Taking
-pub mod Running
+mod Speeds
+mod Marks
+mod Courses
+mod Padding
+mod Concluding
+mod Taking
+mod Running
 pub mod Deciding
 pub mod Leaving
 pub mod Readings

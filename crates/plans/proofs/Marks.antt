@@ -9,7 +9,7 @@ use lib.Dec.{eqb}
 use lib.ListN.{drop, drop-of-length-le, getD, length, set}
 use lib.Seq.{drop-cons, getD-set-other, getD-set-same}
 use Rattle.laws.proofs.Choices.{split}
-use Rattle.laws.proofs.Pairs.{among}
+use Rattle.laws.specs.Pairs.{among}
 
 -- the mark at each of the places, and elsewhere what the list holds
 abbrev pub markedAt : List ℕ → ℕ → List ℕ → ℕ → ℕ

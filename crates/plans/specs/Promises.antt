@@ -10,7 +10,7 @@ use Rattle.columns.specs.Columns.{AllBelow, AtMost, Column, ColumnsOf, TermsOf,
 use Rattle.columns.specs.declared.Columns.{Columns}
 use Rattle.columns.specs.declared.Terms.{Terms}
 use Rattle.entries.specs.Promises.{Summable, mostMhz, mostTime}
-use Rattle.laws.proofs.Pairs.{among}
+use Rattle.laws.specs.Pairs.{among}
 use Rattle.plans.specs.Courses.{FatesByTurn, courseBy, jobAt}
 use Rattle.plans.specs.declared.Course.{Course as Ran}
 use Rattle.plans.specs.declared.Decided.{Decided}

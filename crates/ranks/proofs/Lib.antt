@@ -1,6 +1,6 @@
-pub mod FilledBack
-pub mod RatiosBack
-pub mod Halved
-pub mod Placed
-pub mod Sorted
-pub mod Ordered
+mod FilledBack
+mod RatiosBack
+mod Halved
+mod Placed
+mod Sorted
+mod Ordered

@@ -1,4 +1,4 @@
-pub mod SoFar
-pub mod OneMore
-pub mod Ends
+mod SoFar
+mod OneMore
+mod Ends
 pub mod Unique

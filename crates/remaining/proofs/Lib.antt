@@ -1,2 +1,2 @@
-pub mod FilledTo
-pub mod Staging
+mod FilledTo
+mod Staging

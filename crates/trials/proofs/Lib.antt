@@ -1,5 +1,5 @@
-pub mod Once
-pub mod Members
-pub mod Walked
-pub mod Judged
-pub mod Taken
+mod Once
+mod Members
+mod Walked
+mod Judged
+mod Taken

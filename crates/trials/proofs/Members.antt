@@ -17,7 +17,7 @@ use Rattle.entries.proofs.Moved.{moved-to}
 use Rattle.entries.proofs.Searches.{first-at-most-length, first-without, index-holds, withoutAt}
 use Rattle.entries.specs.Places.{indexOf, placeFor, withAt}
 use Rattle.entries.specs.Promises.{Inserted}
-use Rattle.laws.proofs.Pairs.{among}
+use Rattle.laws.specs.Pairs.{among}
 use Rattle.rules.specs.Lists.{Rising, find, onlyIf}
 use Rattle.rules.specs.Plan.{Entry, Limited, insert, isOf, member, memberFound, memberNew, memberPlanned, remove}
 use Rattle.rules.specs.Plan.{staysBelow}

@@ -19,7 +19,8 @@ use Rattle.entries.specs.Promises.{Inserted}
 use Rattle.laws.proofs.Choices.{eqb-swap, or-swap, split}
 use Rattle.laws.proofs.Elements.{each-too}
 use Rattle.laws.proofs.Lookups.{any-none, each-both, none-any}
-use Rattle.laws.proofs.Pairs.{Distinct, Pairwise, among, no-longer, no-pair, pairs-too, _then_}
+use Rattle.laws.specs.Pairs.{Distinct, Pairwise, among, no-pair, _then_}
+use Rattle.laws.proofs.Pairs.{no-longer, pairs-too}
 use Rattle.rules.specs.Lists.{Each, none-left, _and_}
 use Rattle.rules.specs.Plan.{insert}
 use Rattle.rules.specs.TableText.{mostJobs, noJob}

@@ -12,7 +12,7 @@ use lib.Seq.{length-take-le, take-at}
 use Rattle.columns.proofs.Entries.{jobs-of-entries}
 use Rattle.columns.specs.declared.Terms.{Terms}
 use Rattle.entries.proofs.Found.{in-plan-among}
-use Rattle.laws.proofs.Overwritten.{overwritten}
+use Rattle.laws.specs.Overwritten.{overwritten}
 use Rattle.rules.specs.Plan.{Entry, Outcome, Turn, endsLate, fateBudget, fatePlanned, fateRatioZero, fateTime, inPlan}
 use Rattle.rules.specs.Plan.{judge, ratioZero, tooDear, trial, turn, turnOf, waitsLeft}
 use Rattle.rules.specs.TableText.{Records, mostJobs, noJob}

@@ -11,7 +11,7 @@ use Rattle.chains.specs.Waits.{Waits}
 use Rattle.columns.specs.Columns.{AllBelow, AtMost, Column, TermsOf, entriesIn, jobsAt}
 use Rattle.columns.specs.declared.Terms.{Terms}
 use Rattle.entries.specs.Promises.{Comparable, Summable, mostMhz, mostTime}
-use Rattle.laws.proofs.Pairs.{Distinct, Pairwise, among}
+use Rattle.laws.specs.Pairs.{Distinct, Pairwise, among}
 use Rattle.rules.specs.Lists.{Rising}
 use Rattle.rules.specs.Plan.{Entry, awaited, begin, chainOf, endsLate, fateBudget, fatePlanned, fateTime, jobsOf, member}
 use Rattle.rules.specs.Plan.{members, ratioOf, tooDear, turn, turnOf, waitsLeft}

@@ -1,4 +1,4 @@
-pub mod Lines
-pub mod Text
-pub mod Answer
+mod Lines
+mod Text
+mod Answer
 pub mod Unique

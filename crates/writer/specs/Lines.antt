@@ -2,7 +2,7 @@
 use mathlib.Core.List.{List, map}
 use Prim.Native.Nat.{ℕ, _≤_}
 use lib.ListN.{length}
-use Rattle.laws.proofs.Longest.{mostBytes}
+use Rattle.laws.specs.Longest.{mostBytes}
 use Rattle.rules.specs.Lists.{joined}
 use Rattle.rules.specs.TableText.{Record, mostHolds, mostJobs, mostSpeeds, recordText, recordsOf, textOf}
 use Rattle.rules.specs.declared.Table.{Table}

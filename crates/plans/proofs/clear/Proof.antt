@@ -6,7 +6,8 @@ use Prim.Native.Nat.{ℕ, _+_, _-_, _≤_, _<_}
 use native.Mathlib.Omega.{arith}
 use lib.ListN.{length, length-replicate, length-set, getD-replicate, replicate, set}
 use lib.Seq.{take-all}
-use Rattle.laws.proofs.Overwritten.{all-overwritten, one-more-overwritten, overwritten}
+use Rattle.laws.specs.Overwritten.{overwritten}
+use Rattle.laws.proofs.Overwritten.{all-overwritten, one-more-overwritten}
 use borrow.Author.Needs.{needs}
 use Rattle.plans.proofs.clear.Statement.{statement}
 use Rattle.plans.proofs.clear.Tie as tie

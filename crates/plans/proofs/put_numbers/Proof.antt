@@ -7,7 +7,8 @@ use native.Mathlib.Omega.{arith}
 use lib.ListN.{List·getD-map, getD, length, length-map, length-set, set}
 use lib.Seq.{take-all}
 use Rattle.rules.specs.TableText.{mostJobs}
-use Rattle.laws.proofs.Overwritten.{all-overwritten, one-more-overwritten, overwritten}
+use Rattle.laws.specs.Overwritten.{overwritten}
+use Rattle.laws.proofs.Overwritten.{all-overwritten, one-more-overwritten}
 use borrow.Author.Needs.{needs}
 use Rattle.plans.proofs.put_numbers.Statement.{statement}
 use Rattle.plans.proofs.put_numbers.Tie as tie

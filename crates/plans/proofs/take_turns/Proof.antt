@@ -6,7 +6,7 @@ use Prim.Native.Nat.{ℕ, _-_, _≤_, _<_}
 use native.Mathlib.Omega.{arith}
 use lib.ListN.{getD, getD-replicate, length, length-set, replicate}
 use lib.Seq.{getD-take, length-take-le}
-use Rattle.laws.proofs.Pairs.{no-pair}
+use Rattle.laws.specs.Pairs.{no-pair}
 use Rattle.plans.proofs.Taking.{OnCourse, at-end, at-start, one-more-taken}
 use Rattle.plans.specs.Courses.{courseBy}
 use Rattle.plans.specs.Promises.{CourseBy, TurnsOf}
