@@ -1,33 +1,28 @@
 //! What a call costs: read, and read with plan, for 8, 16, 32 and 64 jobs of four families, the library beside the
-//! reference. It calls the library as it is linked: on x86-64, or with the feature `native` (`tools/native`).
+//! reference. It calls the library linked: with the feature `native`, which off x86-64 needs `tools/native`.
 //!
 //! Usage: bench                              nanoseconds
 //!        bench instructions                 instructions, counted by valgrind
 //!        bench WHO CALL TIMES FAMILY JOBS   so many calls, to be counted or watched from outside: WHO is library or
 //!                                           reference, CALL is read or plan, FAMILY is 0 to 3
 
-#![cfg_attr(not(linked), allow(dead_code, unused_imports))]
+#![forbid(unsafe_code)]
 
 use std::hint::black_box;
 use std::process::Command;
 use std::time::{Duration, Instant};
 
-use cuddlelamb::generate;
-#[cfg(linked)]
-use cuddlelamb::linked;
-use cuddlelamb::reference::{self, Hold, Job, Speed, Table, HOLDS, JOBS, LAST_TIME, MOST_BUDGET, SUPPLIED_SPEEDS};
+use cuddlelamb::calls;
+use cuddlelamb_check::generate;
+use cuddlelamb_check::reference::{
+    self, Hold, Job, Speed, Table, HOLDS, JOBS, LAST_TIME, MOST_BUDGET, SUPPLIED_SPEEDS,
+};
 
 const SIZES: [usize; 4] = [8, 16, 32, 64];
 const CALLS: [&str; 2] = ["read", "plan"];
 const FAMILIES: [&str; 4] =
     ["nothing waits", "ten times overloaded", "long chains, all accepted", "long chains, ten times overloaded"];
 
-#[cfg(not(linked))]
-fn main() {
-    panic!("nothing is linked: run tools/native, then bench with --features native");
-}
-
-#[cfg(linked)]
 fn main() {
     let arguments: Vec<String> = std::env::args().skip(1).collect();
     match arguments.iter().map(String::as_str).collect::<Vec<_>>()[..] {
@@ -56,11 +51,9 @@ type Call = fn(&[u8]);
 
 fn call_of(who: &str, call: &str) -> Call {
     match (who, call) {
-        #[cfg(linked)]
-        ("library", "read") => |text| _ = black_box(linked::read(black_box(text))),
-        #[cfg(linked)]
+        ("library", "read") => |text| _ = black_box(calls::read(black_box(text))),
         ("library", "plan") => {
-            |text| with_buffers(|order, fates| _ = black_box(linked::plan(black_box(text), order, fates)))
+            |text| with_buffers(|order, fates| _ = black_box(calls::plan(black_box(text), order, fates)))
         }
         ("reference", "read") => |text| _ = black_box(reference::read(black_box(text))),
         ("reference", "plan") => {

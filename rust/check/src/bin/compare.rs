@@ -1,13 +1,15 @@
-//! Holds the library against the reference on any number of generated cases: compare SEED COUNT [FIRST]
+//! Holds the library against the reference on any number of generated cases: `compare SEED COUNT [FIRST]`
 //! Exit status 1 at the first difference, which is printed as a table text with its seed and index.
+
+#![forbid(unsafe_code)]
 
 use std::process::ExitCode;
 use std::sync::atomic::{AtomicU64, Ordering};
 use std::sync::Mutex;
 use std::time::Instant;
 
-use cuddlelamb::compare::{cases, Tally};
-use cuddlelamb::library::Library;
+use cuddlelamb_check::compare::{cases, Tally};
+use cuddlelamb_check::Library;
 
 /// How many cases one thread takes at a time.
 const PART: u64 = 1024;

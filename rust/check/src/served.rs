@@ -1,5 +1,5 @@
-//! The library's calls, asked of a server process: rust/server/serve.c, which says how requests and answers are laid
-//! out.
+//! The library's calls, asked of a server process, for a machine that cannot link the archive: check/server/serve.c,
+//! which says how requests and answers are laid out.
 
 use std::io::{Read, Write};
 use std::process::{Child, Command, Stdio};
@@ -7,31 +7,23 @@ use std::process::{Child, Command, Stdio};
 use crate::library::{Answer, Request, Told};
 use crate::reference::{Hold, Job, Plan, Speed, Table};
 
-pub struct Server {
+/// Runs what tools/c-build has made of the archive.
+const RUN: &str = concat!(env!("CARGO_MANIFEST_DIR"), "/../../tools/c-run");
+
+/// The library, ready to be called.
+pub struct Library {
     process: Child,
 }
 
-impl Server {
-    /// Starts what the environment variable CUDDLELAMB_SERVER says, a command line for the shell, or else the server
-    /// that `tools/c-build serve rust/server/serve.c` has built.
-    pub fn start() -> Server {
-        let mut command = match std::env::var_os("CUDDLELAMB_SERVER") {
-            Some(line) => {
-                let mut shell = Command::new("sh");
-                shell.arg("-c").arg(line);
-                shell
-            }
-            None => {
-                let mut run = Command::new(concat!(env!("CARGO_MANIFEST_DIR"), "/../tools/c-run"));
-                run.arg("serve");
-                run
-            }
-        };
-        let process = command.stdin(Stdio::piped()).stdout(Stdio::piped()).spawn().expect("the server starts");
-        Server { process }
+impl Library {
+    /// Starts the server that `tools/c-build serve rust/check/server/serve.c` has built.
+    pub fn open() -> Library {
+        let mut command = Command::new(RUN);
+        command.arg("serve").stdin(Stdio::piped()).stdout(Stdio::piped());
+        Library { process: command.spawn().expect("the server starts") }
     }
 
-    /// One exchange: a frame with all requests, and a frame with all answers.
+    /// The answers of many calls, in one exchange: a frame with all requests, and a frame with all answers.
     pub fn answers(&mut self, requests: &[Request]) -> Vec<Answer> {
         let mut frame = vec![0; 8];
         requests.iter().for_each(|request| put_request(&mut frame, request));
@@ -41,7 +33,7 @@ impl Server {
         input.write_all(&frame).and_then(|()| input.flush()).expect("the server takes requests");
         let output = self.process.stdout.as_mut().expect("the server's output");
         let mut length = [0; 8];
-        output.read_exact(&mut length).expect("the server answers");
+        output.read_exact(&mut length).expect("the server answers, if tools/c-build has built it");
         let mut frame = vec![0; u64::from_le_bytes(length) as usize];
         output.read_exact(&mut frame).expect("the server answers whole");
         let mut rest = Rest { bytes: &frame };
@@ -51,7 +43,7 @@ impl Server {
     }
 }
 
-impl Drop for Server {
+impl Drop for Library {
     /// The server ends when its input does.
     fn drop(&mut self) {
         drop(self.process.stdin.take());

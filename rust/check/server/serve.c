@@ -1,5 +1,5 @@
 /* Answers calls of Cuddlelamb for a process that cannot link the archive: requests on standard input, answers on standard
- * output, until the input ends. rust/src/served.rs is the other side.
+ * output, until the input ends. rust/check/src/served.rs is the other side.
  *
  * Both ways go frames: the length of what follows in bytes, and then any number of requests, or their answers in the same
  * order. A number, a length and a place of an order or fate buffer are 8 bytes, the lowest first; a table is 485 numbers

@@ -1,12 +1,12 @@
 //! The library against the reference: on generated cases, on buffers of every length around what is needed, on the ends
 //! of the ranges; and against itself where a change of the table must not change the plan.
 
-use cuddlelamb::change::changes;
-use cuddlelamb::compare::{cases, requests_of};
-use cuddlelamb::generate::{self, Random};
-use cuddlelamb::library::{Answer, Library, Request};
-use cuddlelamb::naive;
-use cuddlelamb::reference::{self, Table, JOBS, LONGEST_LISTING, LONGEST_TEXT};
+use cuddlelamb_check::change::changes;
+use cuddlelamb_check::compare::{cases, requests_of};
+use cuddlelamb_check::generate::{self, Random};
+use cuddlelamb_check::library::{Answer, Request};
+use cuddlelamb_check::reference::{self, Table, JOBS, LONGEST_LISTING};
+use cuddlelamb_check::{naive, Library};
 
 /// Every generated case is made from this and an index.
 const SEED: u64 = 20_250_102;
@@ -30,33 +30,6 @@ fn generated_cases() {
 const CASE_S: &[u8] = b"T\t0\t2500000000\nF\t500\t700000\nF\t1000\t1000000\nJ\t1\t1000\t50\t3000\t3000\t0\n\
     J\t2\t1000\t90\t2000\t2000\t1\nJ\t3\t500\t10\t5000\t5000\t0\nJ\t4\t2000\t40\t4000\t4000\t0\n\
     J\t5\t3000\t1\t2500\t2500\t0\nH\t1\t3\n";
-
-/// Each call by itself, with the signature that the reference has.
-#[test]
-fn the_wrapper() {
-    let library = &mut Library::open();
-    for text in [CASE_S, b"", b"T\t0\t0\n"] {
-        for (order, fates) in [(64, 64), (70, 65), (63, 64), (64, 0)] {
-            let lent = || (vec![7; order], vec![8; fates]);
-            let ((mut order, mut fates), (mut other_order, mut other_fates)) = (lent(), lent());
-            let given = library.plan(text, &mut order, &mut fates);
-            assert_eq!(given, reference::plan(text, &mut other_order, &mut other_fates));
-            assert_eq!((order, fates), (other_order, other_fates));
-        }
-        let (mut out, mut other_out) = ([9; LONGEST_LISTING], [9; LONGEST_LISTING]);
-        assert_eq!(library.list(text, &mut out), reference::list(text, &mut other_out));
-        assert_eq!(out, other_out);
-        assert_eq!(library.read(text), reference::read(text));
-        let table = reference::read(text).unwrap_or(Table::EMPTY);
-        let (mut out, mut other_out) = ([9; LONGEST_TEXT], [9; LONGEST_TEXT]);
-        assert_eq!(library.write(&table, &mut out), reference::write(&table, &mut other_out));
-        assert_eq!(out, other_out);
-    }
-    assert_eq!(library.allocate(100, 101, 900), Ok(131));
-    assert_eq!(library.allocate(1_000_000, 1, 500), reference::allocate(1_000_000, 1, 500));
-    assert_eq!(library.costs(3), reference::costs(3));
-    assert_eq!(library.costs(4), reference::costs(4));
-}
 
 /// Listings and texts into buffers of every length up to some more than they need.
 #[test]

@@ -2,8 +2,9 @@
 //! buffers place by place.
 
 use crate::generate::{self, Random};
-use crate::library::{by_reference, Answer, Library, Request};
-use crate::reference::{self, Table, LONGEST_LISTING, LONGEST_TEXT, MOST_ASSURANCE, MOST_MEAN, MOST_VARIANCE};
+use crate::library::{Answer, Request, Told};
+use crate::reference::{self, Plan, Table, LONGEST_LISTING, LONGEST_TEXT, MOST_ASSURANCE, MOST_MEAN, MOST_VARIANCE};
+use crate::Library;
 
 /// How many cases are put to the library at once.
 const BATCH: u64 = 64;
@@ -21,6 +22,32 @@ impl Tally {
         self.cases += other.cases;
         self.calls += other.calls;
         self.numbers.iter_mut().zip(other.numbers).for_each(|(number, more)| *number += more);
+    }
+}
+
+/// What the reference answers.
+pub fn by_reference(request: &Request) -> Answer {
+    match request {
+        Request::Plan { text, order, fates } => {
+            let (mut order, mut fates) = (order.clone(), fates.clone());
+            let told = Told::of(reference::plan(text, &mut order, &mut fates), Plan::default());
+            Answer::Plan { told, order, fates }
+        }
+        Request::List { text, out } => {
+            let mut out = out.clone();
+            let told = Told::of(reference::list(text, &mut out), 0);
+            Answer::Text { told, out }
+        }
+        Request::Read { text } => Answer::Table { told: Box::new(Told::of(reference::read(text), Table::EMPTY)) },
+        Request::Write { table, out } => {
+            let mut out = out.clone();
+            let told = Told::of(reference::write(table, &mut out), 0);
+            Answer::Text { told, out }
+        }
+        Request::Allocate { mean, variance, assurance } => {
+            Answer::Cycles { told: Told::of(reference::allocate(*mean, *variance, *assurance), 0) }
+        }
+        Request::Costs { model } => Answer::Costs { told: Told::of(reference::costs(*model), [0; 7]) },
     }
 }
 

@@ -1,10 +1,10 @@
 //! The reference against the sheet of examples, against each cause of each refusal, against the naive implementation on
 //! generated cases, and against itself where a change of the table must not change the plan.
 
-use cuddlelamb::change::changes;
-use cuddlelamb::generate::{self, Random};
-use cuddlelamb::naive;
-use cuddlelamb::reference::{
+use cuddlelamb_check::change::changes;
+use cuddlelamb_check::generate::{self, Random};
+use cuddlelamb_check::naive;
+use cuddlelamb_check::reference::{
     allocate, costs, list, plan, plan_table, read, write, Hold, Plan, Refused, Table, COSTS, HOLDS, JOBS, LAST_TIME,
     LONGEST_LISTING, LONGEST_TEXT, MOST_BUDGET, MOST_COST, MOST_WORTH, SPEEDS, SUPPLIED_SPEEDS,
 };

@@ -1,0 +1,106 @@
+//! One planning decision, from the text of a job table to an ordered plan, a fate for each job, a speed and an energy:
+//! a safe wrapper of the proved library.
+//!
+//! ```
+//! # use cuddlelamb::{Refused, JOBS};
+//! # let text = b"T\t0\t99\nF\t1000\t1\nJ\t7\t10\t5\t500\t500\t0\n";
+//! let (mut order, mut fates) = ([0; JOBS], [0; JOBS]);
+//! let plan = cuddlelamb::plan(text, &mut order, &mut fates)?; // or Err(Refused { number, line })
+//! println!("{:?} at {} MHz", &order[..plan.count], plan.speed);
+//! # assert_eq!((&order[..plan.count], fates[0], plan.speed), (&[7][..], 1, 1000));
+//! # Ok::<(), Refused>(())
+//! ```
+//!
+//! Six calls: [`plan`], [`list`], [`read`], [`write()`], [`allocate`] and [`costs`]. What each keeps:
+//!
+//! - It takes any bytes, any numbers and any lengths, and does not panic.
+//! - A refusal names its number and the line it means; no byte and no place of a lent buffer has then changed.
+//! - It answers the same for the same input. It keeps nothing from one call to the next, does not use the heap, and may
+//!   be called from several threads at once.
+//! - It takes at most 40,000 bytes of stack: measured, not proved.
+//!
+//! The library is linked, always: no environment variable is read, and no other process answers. On x86-64 it is the
+//! archive that `rt staticlib boundary` makes; elsewhere, with the feature `native`, the one that `tools/native` makes of
+//! the same module.
+
+#![deny(unsafe_code)]
+#![deny(missing_docs)]
+
+#[cfg(not(all(target_os = "linux", target_pointer_width = "64", any(target_arch = "x86_64", feature = "native"))))]
+compile_error!(
+    "cuddlelamb: there is no library to link for this machine: the archive is for x86-64 Linux. On another 64-bit Linux, \
+     run tools/native and build with --features native"
+);
+
+pub mod calls;
+mod named;
+mod table;
+
+pub use named::{Fate, Refusal, Refused, Unnamed};
+pub use table::{Hold, Job, Plan, Speed, Table, COSTS, HOLDS, JOBS, LISTING, SPEEDS, SUPPLIED_SPEEDS, TEXT};
+
+/// Plans a text. The first `count` places of `order` become the planned jobs' numbers in the order in which they run,
+/// the places of `fates` the fates of the jobs in the order of the J lines (see [`Fate`]); all places after them become
+/// 0.
+///
+/// # Errors
+///
+/// Before the text is looked at, [`Refusal::NoRoom`] where `order` or `fates` has fewer than [`JOBS`] places. Then the
+/// text is refused as [`read`] does it.
+pub fn plan(text: &[u8], order: &mut [u64], fates: &mut [u64]) -> Result<Plan, Refused> {
+    calls::plan(text, order, fates).result()
+}
+
+/// Plans a text, writes the listing to the front of `out` and gives its length; [`LISTING`] bytes are room enough.
+///
+/// The listing is a line `P speed energy count`, for each planned job in order a line `O job finish`, and for each other
+/// job in the order of the J lines a line `X job fate`, with one tab between fields. A text that is refused has a listing
+/// too, the one line `R number line`.
+///
+/// # Errors
+///
+/// [`Refusal::NoRoom`] where the listing is longer than `out`.
+pub fn list(text: &[u8], out: &mut [u8]) -> Result<usize, Refused> {
+    calls::list(text, out).result()
+}
+
+/// Reads a text: the table has the text's records, in their order, and 0 in every unused place.
+///
+/// # Errors
+///
+/// The first bad line decides, and within it the lowest number: [`Refusal::NoShape`] to [`Refusal::RequestsOwn`].
+pub fn read(text: &[u8]) -> Result<Table, Refused> {
+    calls::read(text).result()
+}
+
+/// Writes a table's text to the front of `out` and gives its length; [`TEXT`] bytes are room enough. What [`read`] makes
+/// of that text is a table with the same records. Unused places may hold anything.
+///
+/// # Errors
+///
+/// First for a record, with the line it would have had: [`Refusal::OutOfRange`] to [`Refusal::RequestsOwn`]; a table
+/// without speeds is [`Refusal::OutOfPlace`], line 2; where a count is beyond the table's places, the first record
+/// beyond is [`Refusal::TooMany`] for F and J, [`Refusal::OutOfPlace`] for H. Then [`Refusal::NoRoom`] where the text is
+/// longer than `out`.
+pub fn write(table: &Table, out: &mut [u8]) -> Result<usize, Refused> {
+    calls::write(table, out).result()
+}
+
+/// Allocates cycles: the least whole c, the mean or more, with (c − mean)² × (1000 − assurance) ≥ assurance × variance.
+///
+/// # Errors
+///
+/// [`Refusal::OutOfRange`] where the mean is not in 1..=1,000,000, the variance not in 0..=10^12 or the assurance (in
+/// thousandths) not in 0..=999; [`Refusal::TooMuchAllocated`] where c would be above 1,000,000.
+pub fn allocate(mean: u64, variance: u64, assurance: u64) -> Result<u64, Refused> {
+    calls::allocate(mean, variance, assurance).result()
+}
+
+/// The costs of model 1, 2 or 3, for the [`SUPPLIED_SPEEDS`] in their order.
+///
+/// # Errors
+///
+/// [`Refusal::UnknownModel`] for any other model.
+pub fn costs(model: u64) -> Result<[u64; COSTS], Refused> {
+    calls::costs(model).result()
+}

@@ -1,0 +1,197 @@
+//! The wrapper by itself: each call on the sheet's examples, what a refusal leaves alone, names and words, and the
+//! header that it leans on. Whether the answers are the document's is the matter of cuddlelamb-check.
+
+use std::error::Error;
+use std::mem::size_of;
+
+use cuddlelamb::calls::Told;
+use cuddlelamb::{
+    allocate, costs, list, plan, read, write, Fate, Hold, Job, Plan, Refusal, Refused, Speed, Table, Unnamed, COSTS,
+    HOLDS, JOBS, LISTING, SPEEDS, SUPPLIED_SPEEDS, TEXT,
+};
+
+/// The text of the sheet's case S.
+const CASE_S: &[u8] = b"T\t0\t2500000000\nF\t500\t700000\nF\t1000\t1000000\nJ\t1\t1000\t50\t3000\t3000\t0\n\
+    J\t2\t1000\t90\t2000\t2000\t1\nJ\t3\t500\t10\t5000\t5000\t0\nJ\t4\t2000\t40\t4000\t4000\t0\n\
+    J\t5\t3000\t1\t2500\t2500\t0\nH\t1\t3\n";
+
+const HEADER: &str = include_str!("../../../include/cuddlelamb.h");
+
+fn refused<Value>(refusal: Refusal, line: u64) -> Result<Value, Refused> {
+    Err(Refused { number: refusal.number(), line })
+}
+
+// ---- The calls -------------------------------------------------------------------------------------------------------
+
+#[test]
+fn a_plan_and_its_fates() {
+    let (mut order, mut fates) = ([77; JOBS + 3], [77; JOBS]);
+    let plan = plan(CASE_S, &mut order, &mut fates);
+    assert_eq!(plan, Ok(Plan { count: 3, speed: 1000, energy: 2_500_000_000 }));
+    assert_eq!(order[..3], [3, 2, 1]);
+    let named: Vec<Fate> = fates[..5].iter().map(|fate| Fate::try_from(*fate).expect("a fate")).collect();
+    assert_eq!(named, [Fate::Planned, Fate::Planned, Fate::Planned, Fate::OutOfTime, Fate::LateAlone]);
+    assert!(order[3..].iter().chain(&fates[5..]).all(|place| *place == 0));
+}
+
+#[test]
+fn a_listing() {
+    let mut out = [9; LISTING];
+    let expected = b"P\t1000\t2500000000\t3\nO\t3\t500\nO\t2\t1500\nO\t1\t2500\nX\t4\t5\nX\t5\t2\n";
+    assert_eq!(list(CASE_S, &mut out), Ok(expected.len()));
+    assert_eq!(out[..expected.len()], expected[..]);
+    assert!(out[expected.len()..].iter().all(|byte| *byte == 9));
+    assert_eq!(list(b"", &mut out), Ok(6));
+    assert_eq!(&out[..6], b"R\t3\t1\n");
+}
+
+#[test]
+fn a_table_there_and_back() {
+    let table = read(CASE_S).expect("a good text");
+    assert_eq!((table.clock, table.budget), (0, 2_500_000_000));
+    assert_eq!(
+        table.speeds[..table.speed_count],
+        [Speed { mhz: 500, cost: 700_000 }, Speed { mhz: 1000, cost: 1_000_000 }]
+    );
+    let second = Job { number: 2, cycles: 1000, worth: 90, critical: 2000, termination: 2000, request: 1 };
+    assert_eq!((table.job_count, table.jobs[1]), (5, second));
+    assert_eq!(table.holds[..table.hold_count], [Hold { resource: 1, holder: 3 }]);
+    assert!(table.jobs[5..].iter().all(|job| *job == Job::default()));
+    let mut out = [9; TEXT];
+    assert_eq!(write(&table, &mut out), Ok(CASE_S.len()));
+    assert_eq!(out[..CASE_S.len()], *CASE_S);
+    assert!(out[CASE_S.len()..].iter().all(|byte| *byte == 9));
+}
+
+#[test]
+fn allocations_and_costs() {
+    assert_eq!(allocate(100, 100, 900), Ok(130));
+    assert_eq!(allocate(100, 101, 900), Ok(131));
+    assert_eq!(costs(1), Ok(SUPPLIED_SPEEDS.map(|mhz| mhz * mhz)));
+}
+
+/// Each refusal by a call that gives it, and the lent buffers as they were.
+#[test]
+fn refusals() {
+    for (text, refusal, line) in [
+        (&b"T\t007\t0\n"[..], Refusal::NoShape, 1),
+        (b"T\t0\t0\nF\t4001\t1\n", Refusal::OutOfRange, 2),
+        (b"T\t0\t0\n", Refusal::OutOfPlace, 2),
+        (b"T\t0\t0\nF\t1\t1\nJ\t1\t1\t1\t2\t1\t0\n", Refusal::CriticalAfterTermination, 3),
+        (b"T\t0\t0\nF\t1\t1\nJ\t1\t1\t1\t1\t1\t0\nH\t1\t2\n", Refusal::UnknownJob, 4),
+        (b"T\t0\t0\nF\t1\t1\nJ\t1\t1\t1\t1\t1\t1\nH\t1\t1\n", Refusal::RequestsOwn, 4),
+    ] {
+        let (mut order, mut fates) = ([7; JOBS], [8; JOBS]);
+        assert_eq!(read(text), refused(refusal, line));
+        assert_eq!(plan(text, &mut order, &mut fates), refused(refusal, line));
+        assert_eq!((order, fates), ([7; JOBS], [8; JOBS]));
+    }
+    let mut table = read(CASE_S).expect("a good text");
+    table.job_count = usize::MAX;
+    table.jobs = std::array::from_fn(|place| Job { number: place as u64 + 1, ..table.jobs[0] });
+    let mut out = [9; TEXT];
+    assert_eq!(write(&table, &mut out), refused(Refusal::TooMany, 4 + JOBS as u64));
+    assert_eq!(write(&Table::default(), &mut out), refused(Refusal::OutOfPlace, 2));
+    assert_eq!(out, [9; TEXT]);
+    assert_eq!(list(CASE_S, &mut []), refused(Refusal::NoRoom, 0));
+    assert_eq!(plan(CASE_S, &mut [0; JOBS - 1], &mut [0; JOBS]), refused(Refusal::NoRoom, 0));
+    assert_eq!(plan(CASE_S, &mut [], &mut []), refused(Refusal::NoRoom, 0));
+    assert_eq!(costs(4), refused(Refusal::UnknownModel, 0));
+    assert_eq!(allocate(0, 0, 0), refused(Refusal::OutOfRange, 0));
+    assert_eq!(allocate(1_000_000, 1, 500), refused(Refusal::TooMuchAllocated, 0));
+}
+
+/// Many threads at once, each with buffers of its own.
+#[test]
+fn threads() {
+    std::thread::scope(|scope| {
+        for _ in 0..8 {
+            scope.spawn(|| (0..200).for_each(|_| a_plan_and_its_fates()));
+        }
+    });
+}
+
+// ---- Names and words -------------------------------------------------------------------------------------------------
+
+#[test]
+fn numbers_and_names() {
+    assert!(Fate::ALL.iter().map(|fate| u64::from(*fate)).eq(1..=6));
+    assert!(Refusal::ALL.iter().map(|refusal| u64::from(*refusal)).eq(1..=10));
+    assert!(Fate::ALL.iter().all(|fate| Fate::try_from(fate.number()) == Ok(*fate)));
+    assert!(Refusal::ALL.iter().all(|refusal| Refusal::try_from(refusal.number()) == Ok(*refusal)));
+    for number in [0, 7, 1 << 32 | 1, u64::MAX] {
+        assert_eq!(Fate::try_from(number), Err(Unnamed(number)));
+    }
+    for number in [0, 11, 1 << 32 | 1, u64::MAX] {
+        assert_eq!(Refusal::try_from(number), Err(Unnamed(number)));
+        assert_eq!(Refused { number, line: 0 }.refusal(), None);
+    }
+}
+
+#[test]
+fn what_an_error_says() {
+    let error: Box<dyn Error> = Box::new(read(b"").unwrap_err());
+    let words = "the line may not stand here or its first number does not rise; \
+        or the text ends before an F has been read";
+    assert_eq!(error.to_string(), format!("refused 3, line 1: {words}"));
+    assert_eq!(costs(4).unwrap_err().to_string(), "refused 9: a cost model other than 1, 2, 3");
+    assert_eq!(Refused { number: 11, line: 0 }.to_string(), "refused 11");
+    assert_eq!(Unnamed(11).to_string(), "11 has no name here");
+}
+
+// ---- The header ------------------------------------------------------------------------------------------------------
+
+/// The header with every run of blanks and comment stars made one blank.
+fn header() -> String {
+    HEADER
+        .split(|letter: char| letter.is_whitespace() || letter == '*')
+        .filter(|word| !word.is_empty())
+        .collect::<Vec<_>>()
+        .join(" ")
+}
+
+#[test]
+fn the_headers_sizes() {
+    let sizes = [
+        ("speed", size_of::<Speed>()),
+        ("job", size_of::<Job>()),
+        ("hold", size_of::<Hold>()),
+        ("table", size_of::<Table>()),
+        ("plan_answer", size_of::<Told<Plan>>()),
+        ("text_answer", size_of::<Told<usize>>()),
+        ("table_answer", size_of::<Told<Table>>()),
+        ("cycles_answer", size_of::<Told<u64>>()),
+        ("costs_answer", size_of::<Told<[u64; COSTS]>>()),
+    ];
+    for (name, size) in sizes {
+        let line = format!("CUDDLELAMB_SIZE(cuddlelamb_{name}, {size});");
+        assert!(HEADER.contains(&line), "the header does not say {line}");
+    }
+    assert_eq!(HEADER.matches("CUDDLELAMB_SIZE(cuddlelamb_").count(), sizes.len());
+}
+
+#[test]
+fn the_headers_constants() {
+    let constants =
+        [("SPEEDS", SPEEDS), ("JOBS", JOBS), ("HOLDS", HOLDS), ("COSTS", COSTS), ("TEXT", TEXT), ("LISTING", LISTING)];
+    let fates = ["PLANNED", "LATE_ALONE", "DEADLOCK", "NO_RATIO", "OUT_OF_TIME", "OUT_OF_BUDGET"];
+    let fates = fates.iter().zip(Fate::ALL).map(|(name, fate)| (*name, fate.number() as usize));
+    for (name, value) in constants.into_iter().chain(fates) {
+        let said = HEADER.split(&format!("CUDDLELAMB_{name} = ")).nth(1).expect("the header has the name");
+        let digits: String = said.chars().take_while(char::is_ascii_digit).collect();
+        assert_eq!(digits, value.to_string(), "{name}");
+    }
+}
+
+/// The words of fates and refusals are the header's; a fate's `planned` needs none there.
+#[test]
+fn the_headers_words() {
+    let header = header();
+    for refusal in Refusal::ALL {
+        let line = format!("{} {}", refusal.number(), refusal.words());
+        assert!(header.contains(&line), "the header does not say {line}");
+    }
+    for fate in &Fate::ALL[1..] {
+        assert!(header.contains(fate.words()), "the header does not say {fate}");
+    }
+}
