@@ -1,8 +1,9 @@
-//! The library held against the reference: the same calls to both, and everything that comes back compared, the lent
-//! buffers place by place.
+//! The library held against the reference, or against the naive one: the same calls to both, and everything that comes
+//! back compared, the lent buffers place by place.
 
 use crate::generate::{self, Random};
 use crate::library::{Answer, Request, Told};
+use crate::naive;
 use crate::reference::{self, Plan, Table, LONGEST_LISTING, LONGEST_TEXT, MOST_ASSURANCE, MOST_MEAN, MOST_VARIANCE};
 use crate::Library;
 
@@ -24,6 +25,9 @@ impl Tally {
         self.numbers.iter_mut().zip(other.numbers).for_each(|(number, more)| *number += more);
     }
 }
+
+/// What the library is held against: `by_reference` or `by_naive`.
+pub type Expected = fn(&Request) -> Answer;
 
 /// What the reference answers.
 pub fn by_reference(request: &Request) -> Answer {
@@ -51,15 +55,41 @@ pub fn by_reference(request: &Request) -> Answer {
     }
 }
 
+/// What the naive one answers.
+pub fn by_naive(request: &Request) -> Answer {
+    match request {
+        Request::Plan { text, order, fates } => {
+            let (mut order, mut fates) = (order.clone(), fates.clone());
+            let told = Told::of(naive::plan_into(text, &mut order, &mut fates), Plan::default());
+            Answer::Plan { told, order, fates }
+        }
+        Request::List { text, out } => {
+            let mut out = out.clone();
+            let told = Told::of(naive::write_into(&naive::list(text), &mut out), 0);
+            Answer::Text { told, out }
+        }
+        Request::Read { text } => Answer::Table { told: Box::new(Told::of(naive::read(text), Table::EMPTY)) },
+        Request::Write { table, out } => {
+            let mut out = out.clone();
+            let told = Told::of(naive::write(table).and_then(|text| naive::write_into(&text, &mut out)), 0);
+            Answer::Text { told, out }
+        }
+        Request::Allocate { mean, variance, assurance } => {
+            Answer::Cycles { told: Told::of(naive::allocate(*mean, *variance, *assurance), 0) }
+        }
+        Request::Costs { model } => Answer::Costs { told: Told::of(naive::costs(*model), [0; 7]) },
+    }
+}
+
 /// Compares the cases from one index up to another; a difference is given as it is to be printed.
-pub fn cases(library: &mut Library, seed: u64, from: u64, to: u64) -> Result<Tally, String> {
+pub fn cases(library: &mut Library, expected: Expected, seed: u64, from: u64, to: u64) -> Result<Tally, String> {
     let mut tally = Tally::default();
     for first in (from..to).step_by(BATCH as usize) {
         let batch = first..to.min(first + BATCH);
         let calls: Vec<(u64, Request)> =
             batch.flat_map(|index| case(seed, index).into_iter().map(move |request| (index, request))).collect();
         let (indices, requests): (Vec<u64>, Vec<Request>) = calls.into_iter().unzip();
-        let told = requests_of(library, &requests)
+        let told = requests_of(library, expected, &requests)
             .map_err(|(at, difference)| format!("seed {seed}, index {}: {difference}", indices[at]))?;
         tally.add(&Tally { cases: to.min(first + BATCH) - first, ..told });
     }
@@ -67,10 +97,10 @@ pub fn cases(library: &mut Library, seed: u64, from: u64, to: u64) -> Result<Tal
 }
 
 /// Compares any requests; a difference is given with the place of its request.
-pub fn requests_of(library: &mut Library, requests: &[Request]) -> Result<Tally, (usize, String)> {
+pub fn requests_of(library: &mut Library, expected: Expected, requests: &[Request]) -> Result<Tally, (usize, String)> {
     let mut tally = Tally::default();
     for (at, (request, given)) in requests.iter().zip(library.answers(requests)).enumerate() {
-        let expected = by_reference(request);
+        let expected = expected(request);
         if given != expected {
             return Err((at, difference(request, &expected, &given)));
         }

@@ -1,9 +1,9 @@
 //! Holds the proved library against document 01 as it is said twice more, in plain Rust.
 //!
 //! `reference` is the whole of the document, without heap and without floats; `naive` says the same again, slowly and
-//! sentence by sentence, so that the two can be held against each other. `generate` makes
+//! sentence by sentence, so that the two can be held against each other, and the library against both. `generate` makes
 //! the tables, texts and buffers on which that is done, each from a seed and an index; `change` changes a table so that
-//! its plan must stay; `compare` holds the library against the reference. `library` is the library's calls as data, and
+//! its plan must stay; `compare` holds the library against either of them. `library` is the library's calls as data, and
 //! `Library` answers them: linked, through the wrapper, where something can be linked; elsewhere by a server process.
 
 #![forbid(unsafe_code)]

@@ -1,8 +1,9 @@
 //! The library against the reference: on generated cases, on buffers of every length around what is needed, on the ends
-//! of the ranges; and against itself where a change of the table must not change the plan.
+//! of the ranges; against the naive one on generated cases; and against itself where a change of the table must not
+//! change the plan.
 
 use cuddlelamb_check::change::changes;
-use cuddlelamb_check::compare::{cases, requests_of};
+use cuddlelamb_check::compare::{by_naive, by_reference, cases, requests_of, Expected};
 use cuddlelamb_check::generate::{self, Random};
 use cuddlelamb_check::library::{Answer, Request};
 use cuddlelamb_check::reference::{self, Table, JOBS, LONGEST_LISTING};
@@ -13,17 +14,29 @@ const SEED: u64 = 20_250_102;
 
 /// Compares requests and fails with the first difference.
 fn assert_same(requests: &[Request]) {
-    if let Err((at, difference)) = requests_of(&mut Library::open(), requests) {
+    if let Err((at, difference)) = requests_of(&mut Library::open(), by_reference, requests) {
         panic!("request {at}: {difference}");
     }
 }
 
-#[test]
-fn generated_cases() {
-    println!("seed {SEED}");
-    let tally = cases(&mut Library::open(), SEED, 0, 5_000).unwrap_or_else(|difference| panic!("{difference}"));
+/// Compares so many generated cases, among which every refusal is.
+fn assert_same_cases(expected: Expected, seed: u64, count: u64) {
+    println!("seed {seed}");
+    let tally =
+        cases(&mut Library::open(), expected, seed, 0, count).unwrap_or_else(|difference| panic!("{difference}"));
     println!("{} cases, {} calls, answers by number: {:?}", tally.cases, tally.calls, tally.numbers);
     assert!(tally.numbers.iter().all(|count| *count > 100), "{tally:?}");
+}
+
+#[test]
+fn generated_cases() {
+    assert_same_cases(by_reference, SEED, 5_000);
+}
+
+/// Other cases than those of the reference, so that the two together reach further.
+#[test]
+fn generated_cases_against_the_naive() {
+    assert_same_cases(by_naive, SEED + 1, 5_000);
 }
 
 /// The text of the sheet's case S.

@@ -8,7 +8,7 @@ use std::sync::atomic::{AtomicU64, Ordering};
 use std::sync::Mutex;
 use std::time::Instant;
 
-use cuddlelamb_check::compare::{cases, Tally};
+use cuddlelamb_check::compare::{by_reference, cases, Tally};
 use cuddlelamb_check::Library;
 
 /// How many cases one thread takes at a time.
@@ -50,7 +50,7 @@ fn compare(seed: u64, first: u64, count: u64) -> Result<Tally, String> {
             if from >= count || result.lock().unwrap().is_err() {
                 return;
             }
-            let told = cases(&mut library, seed, first + from, first + count.min(from + PART));
+            let told = cases(&mut library, by_reference, seed, first + from, first + count.min(from + PART));
             let mut result = result.lock().unwrap();
             match (&mut *result, told) {
                 (Ok(all), Ok(tally)) => {
