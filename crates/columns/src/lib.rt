@@ -4,6 +4,7 @@ use rules::MOST_JOBS;
 use rules::Table;
 ghost use Prim.Native.Nat.{_≤_};
 ghost use Rattle.columns.specs.Columns.{ColumnsOf};
+ghost use Rattle.columns.specs.LookUp.{StandsAt};
 ghost use Rattle.rules.specs.TableText.{mostJobs, recordsOf};
 
 // Each column holds 0 beyond the jobs.
@@ -23,6 +24,12 @@ pub struct Terms {
     pub mhz: u64,
     pub cost: u64,
     pub job_count: usize,
+}
+
+// The job of a number: its place in the table, at which each column holds a field of it, or that there is none.
+pub enum Found {
+    At(usize),
+    Nowhere,
 }
 
 // For every step: the columns of a table's jobs. One store a field, so that no column is copied in the loop.
@@ -51,4 +58,27 @@ pub fn columns_of(table: Table) -> Columns
         i += 1;
     }
     columns
+}
+
+// The place of the job of a number among the first count. The numbers of a table's jobs rise, so the search halves what is
+// left: the number is not in front of `low`, and neither at `high` nor behind it.
+pub fn look_up(numbers: &[u64; MOST_JOBS], count: usize, number: u64) -> Found
+    requires { ⌜ count ≤ mostJobs ⌝ }
+    ensures { λ r. ⌜ StandsAt (now (numbers .entry)) count number r ⌝ }
+{
+    let mut low = 0;
+    let mut high = count;
+    while low < high {
+        let middle = low + (high - low) / 2;
+        let other = numbers[middle];
+        if other == number {
+            return Found::At(middle);
+        }
+        if other < number {
+            low = middle + 1;
+        } else {
+            high = middle;
+        }
+    }
+    Found::Nowhere
 }
