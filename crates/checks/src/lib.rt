@@ -93,7 +93,7 @@ fn check_holds(table: Table, before: Standing) -> Passed
             return Passed::Stopped(Refusal::Order, next_line(state));
         }
         let hold = table.holds[i];
-        let holder = records::look_up(&numbers, &requests, before.jobs, hold.holder);
+        let holder = records::holder_of(&numbers, &requests, before.jobs, hold.holder);
         let judgement = records::judge_hold(state, hold, holder);
         if let Judgement::Bad(why) = judgement {
             return Passed::Stopped(why, next_line(state));

@@ -4,11 +4,9 @@ use mathlib.Core.List.{List}
 use mathlib.Core.Option.{Option}
 use mathlib.Core.Path.{_≡_, sym, _∙_}
 use Prim.Native.Nat.{ℕ}
-use lib.ListN.{length}
-use Rattle.columns.specs.Columns.{Column}
 use Rattle.records.proofs.Faults.{clock-fault, hold-fault, job-fault, speed-fault}
 use Rattle.records.proofs.LookedUp.{holder-fault-looked-up}
-use Rattle.records.specs.Faults.{clockFault, holdFault, jobFault, lookedUp, speedFault}
+use Rattle.records.specs.Faults.{HolderOf, clockFault, holdFault, jobFault, lookedUp, speedFault}
 use Rattle.records.specs.declared.Holder.{Holder}
 use Rattle.records.specs.declared.Standing.{Standing}
 use Rattle.rules.specs.Refusals.{Before, faultOf}
@@ -30,9 +28,8 @@ module _ (b : Before) (before : Standing) (numbers requests : List ℕ) (n : Not
   job-judged j e = e ∙ rw (n .state) (sym (job-fault b j))
 
   pub hold-judged : (h : Hold) (holder : Holder) {o : Option Refusal}
-      → ((js : List Job) → length js ≡ before .jobs → Column (λ j. j .number) js numbers → Column (λ j. j .request) js requests → holder ≡ lookedUp js (h .holder))
-      → o ≡ holdFault before h holder → o ≡ faultOf b (Record.H h)
+      → HolderOf numbers requests (before .jobs) (h .holder) holder → o ≡ holdFault before h holder → o ≡ faultOf b (Record.H h)
   hold-judged h holder found e =
       let js = b .records .jobs in
-      let looked : holder ≡ lookedUp js (h .holder) = found js (rw (n .state)) (n .number) (n .request) in
+      let looked : holder ≡ lookedUp js (h .holder) = found js (rw (n .state)) (n .rising) (n .number) (n .request) in
       e ∙ rw (n .state) (rw looked (sym (hold-fault b h (lookedUp js (h .holder)) (holder-fault-looked-up h js (n .rising)))))

@@ -29,7 +29,7 @@ fn judge<'a>(
         Parsed::Speed(speed) => records::judge_speed(before, speed),
         Parsed::Job(job) => records::judge_job(before, job),
         Parsed::Hold(hold) => {
-            let holder = records::look_up(numbers, requests, before.jobs, hold.holder);
+            let holder = records::holder_of(numbers, requests, before.jobs, hold.holder);
             records::judge_hold(before, hold, holder)
         }
         Parsed::Refused(why, _) => Judgement::Bad(why),

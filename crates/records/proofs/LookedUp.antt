@@ -1,20 +1,22 @@
 -- Refusals 6 and 7 of an H line from the one job that it names: the numbers rise, so that no other job has that number.
--- Assumes nothing.
+-- The place found in the column of numbers is that job's. Assumes nothing.
 use mathlib.Core.Bool.{Bool, true, false, or-false}
 use mathlib.Core.List.{List, [], _∷_}
-use mathlib.Core.Path.{_≡_, refl}
-use Prim.Native.Nat.{ℕ, suc, _<_, _≤_}
+use mathlib.Core.Path.{_≡_, refl, ap}
+use Prim.Native.Nat.{ℕ, _<_}
 use native.Mathlib.Omega.{arith}
-use borrow.Author.Tests.{eq-eqb, ne-eqb, eqb-true}
+use borrow.Author.Tests.{ne-eqb, eqb-true}
 use lib.Dec.{eqb}
-use lib.ListN.{length, drop, getD, drop-of-length-le}
-use lib.Seq.{drop-cons}
+use lib.ListN.{length, getD}
+use Rattle.columns.proofs.LookedUp.{found-job}
+use Rattle.columns.specs.Columns.{Column}
+use Rattle.columns.specs.LookUp.{StandsAt}
+use Rattle.columns.specs.declared.Found.{Found}
 use Rattle.rules.specs.Lists.{Rising, no-element, one-element, _below_, any}
 use Rattle.rules.specs.Refusals.{asksOwn, isHolder}
-use Rattle.rules.specs.TableText.{noJob}
 use Rattle.rules.specs.declared.Hold.{Hold}
 use Rattle.rules.specs.declared.Job.{Job}
-use Rattle.records.specs.Faults.{holderFault, lookedUp}
+use Rattle.records.specs.Faults.{asHolder, holderFault, lookedUp}
 use Rattle.records.specs.declared.Holder.{Holder}
 use Rattle.records.proofs.Faults.{holder-fault}
 
@@ -49,18 +51,16 @@ holder-fault-looked-up h [] r = refl
 holder-fault-looked-up h (x ∷ xs) r =
     by-first h x xs (eqb (x .number) (h .holder)) refl r (holder-fault-looked-up h xs (rest-rises x xs r))
 
--- a search from a place on: found there, further on, nowhere
-module _ (js : List Job) (number i : ℕ) where
-  pub found-here : i < length js → getD js i noJob .number ≡ number
-      → lookedUp (drop i js) number ≡ Holder.Requests (getD js i noJob .request)
-  unfolding lookedUp
-  found-here h e = rw (drop-cons js i noJob h) (rw (eq-eqb (getD js i noJob .number) number e))
+-- what the job at the place found requests, or that there is none
+abbrev pub holderAt : List ℕ → Found → Holder
+holderAt requests (Found.At place) = Holder.Requests (getD requests place 0)
+holderAt requests Found.Nowhere = Holder.Unknown
 
-  pub further-on : i < length js → (getD js i noJob .number ≡ number → ⊥)
-      → lookedUp (drop i js) number ≡ lookedUp (drop (suc i) js) number
-  unfolding lookedUp
-  further-on h e = rw (drop-cons js i noJob h) (rw (ne-eqb (getD js i noJob .number) number e))
-
-  pub nowhere : length js ≤ i → lookedUp (drop i js) number ≡ Holder.Unknown
-  unfolding lookedUp
-  nowhere h = rw (drop-of-length-le js h)
+pub holder-found : (js : List Job) (numbers requests : List ℕ) (number : ℕ) (r : Found) → Rising (λ (j : Job). j .number) js
+    → Column (λ j. j .number) js numbers → Column (λ j. j .request) js requests → StandsAt numbers (length js) number r
+    → holderAt requests r ≡ lookedUp js number
+unfolding lookedUp
+holder-found js numbers requests number (Found.At place) rising number-of request-of stands =
+    rw (request-of place) (ap asHolder (found-job number js numbers rising number-of (Found.At place) stands))
+holder-found js numbers requests number Found.Nowhere rising number-of request-of stands =
+    ap asHolder (found-job number js numbers rising number-of Found.Nowhere stands)

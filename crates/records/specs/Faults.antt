@@ -2,9 +2,12 @@
 use mathlib.Core.Bool.{Bool, cond, not, _||_}
 use mathlib.Core.Option.{Option, none, some}
 use mathlib.Core.List.{List}
+use mathlib.Core.Path.{_≡_}
 use Prim.Native.Nat.{ℕ}
 use lib.Dec.{leb, ltb, eqb}
-use Rattle.rules.specs.Lists.{find}
+use lib.ListN.{length}
+use Rattle.columns.specs.Columns.{Column}
+use Rattle.rules.specs.Lists.{Rising, find}
 use Rattle.rules.specs.TableText.{Record, inRange, mostJobs, mostSpeeds}
 use Rattle.rules.specs.declared.Hold.{Hold}
 use Rattle.rules.specs.declared.Job.{Job}
@@ -51,6 +54,12 @@ asHolder (some j) = Holder.Requests (j .request)
 
 unfoldable pub lookedUp : List Job → ℕ → Holder
 lookedUp js number = asHolder (find (λ j. eqb (j .number) number) js)
+
+-- the job of a number among the first count, which rise, from the columns of numbers and requests
+abbrev pub HolderOf : List ℕ → List ℕ → ℕ → ℕ → Holder → Type 0
+HolderOf numbers requests count number holder =
+    (js : List Job) → length js ≡ count → Rising (λ j. j .number) js → Column (λ j. j .number) js numbers
+    → Column (λ j. j .request) js requests → holder ≡ lookedUp js number
 
 unfoldable pub holdFault : Standing → Hold → Holder → Option Refusal
 holdFault s h holder =

@@ -1,17 +1,14 @@
 // The judgement of one record, from its numbers and a small state of what stands before it: refusals 2 to 7.
+use columns::Found;
 use rules::Hold;
 use rules::Job;
 use rules::MOST_JOBS;
 use rules::Refusal;
 use rules::Speed;
-ghost use mathlib.Core.List.{List};
 ghost use mathlib.Core.Path.{_≡_};
 ghost use Prim.Native.Nat.{_≤_};
-ghost use lib.ListN.{length};
-ghost use Rattle.columns.specs.Columns.{Column};
 ghost use Rattle.rules.specs.TableText.{Record, inRange, mostHolds, mostJobs, mostSpeeds};
-ghost use Rattle.rules.specs.declared.Job.{Job};
-ghost use Rattle.records.specs.Faults.{clockFault, speedFault, jobFault, holdFault, faultSays, lookedUp};
+ghost use Rattle.records.specs.Faults.{HolderOf, clockFault, speedFault, jobFault, holdFault, faultSays};
 ghost use Rattle.records.specs.Standing.{noneStanding, afterClock, afterSpeed, afterJob, afterHold};
 
 const MOST_TIME: u64 = 1000000000;
@@ -243,22 +240,19 @@ pub fn after_hold(before: Standing, hold: Hold) -> Standing
     next
 }
 
-// The job of a number among the first count, in the columns of numbers and requests.
-pub fn look_up<'a>(
+// The job that an H line names, among the first count of the columns of numbers and requests.
+pub fn holder_of<'a>(
     numbers: &'a [u64; MOST_JOBS],
     requests: &'a [u64; MOST_JOBS],
     count: usize,
     number: u64,
 ) -> Holder
     requires { ⌜ count ≤ mostJobs ⌝ }
-    ensures { λ r. ⌜ ((js : List Job) → length js ≡ count → Column (λ j. j .number) js (now (numbers .entry)) → Column (λ j. j .request) js (now (requests .entry)) → r ≡ lookedUp js number) ⌝ }
+    ensures { λ r. ⌜ HolderOf (now (numbers .entry)) (now (requests .entry)) count number r ⌝ }
 {
-    let mut i = 0;
-    while i < count {
-        if numbers[i] == number {
-            return Holder::Requests(requests[i]);
-        }
-        i += 1;
-    }
-    Holder::Unknown
+    let found = columns::look_up(numbers, count, number);
+    let Found::At(place) = found else {
+        return Holder::Unknown;
+    };
+    Holder::Requests(requests[place])
 }

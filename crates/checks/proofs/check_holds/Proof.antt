@@ -70,9 +70,9 @@ fault c =
     let js = recordsOf t .jobs in
     let h = getD (t .holds) (a .loop .i) noHold in
     let columns = a .before .before .before .columns-of .ensures in
-    let found : c .before .look-up .result ≡ lookedUp js (h .holder) =
-    c .before .look-up .ensures js (rw (s .pre .state) refl) (columns .number) (columns .request) in
-    hold-fault (withHolds (recordsOf t) (take (a .loop .i) (t .holds))) h (c .before .look-up .result)
+    let found : c .before .holder-of .result ≡ lookedUp js (h .holder) =
+    c .before .holder-of .ensures js (rw (s .pre .state) refl) (s .pre .rising) (columns .number) (columns .request) in
+    hold-fault (withHolds (recordsOf t) (take (a .loop .i) (t .holds))) h (c .before .holder-of .result)
     (holder-fault-looked-up h js (s .pre .rising) ∙ rw found refl)
     ∙ rw (← a .loop .inv .2) (sym (c .judge-hold .ensures))
 
@@ -102,8 +102,8 @@ mul-hold c = search needs
 element-copy-out-hold : tie.Need-element-copy-out-hold Inv-loop μ-loop
 element-copy-out-hold c = search needs
 
-look-up-requires : tie.Need-look-up-requires Inv-loop μ-loop
-look-up-requires c κs =
+holder-of-requires : tie.Need-holder-of-requires Inv-loop μ-loop
+holder-of-requires c κs =
     let s = c .before .before .before .before .before .before .before .before .before in
     rw (s .pre .state) (few-jobs (s .args .t1) (whole-jobs s))
 
@@ -177,7 +177,7 @@ check-holds-spec =
     returns
     mul-hold
     element-copy-out-hold
-    look-up-requires
+    holder-of-requires
     judge-hold-requires
     enum-known-judgement
     next-line-requires-2

@@ -11,7 +11,7 @@ use Rattle.records.proofs.judge_clock.Reads as judge-clock-reads
 use Rattle.records.proofs.judge_hold.Reads as judge-hold-reads
 use Rattle.records.proofs.judge_job.Reads as judge-job-reads
 use Rattle.records.proofs.judge_speed.Reads as judge-speed-reads
-use Rattle.records.proofs.look_up.Reads as look-up-reads
+use Rattle.records.proofs.holder_of.Reads as holder-of-reads
 
 enum-known-parsed : tie.Need-enum-known-parsed
 enum-known-parsed c = search needs
@@ -34,8 +34,8 @@ judge-job-requires c κs = search needs
 enum-known-parsed-4 : tie.Need-enum-known-parsed-4
 enum-known-parsed-4 c = search needs
 
-look-up-requires : tie.Need-look-up-requires
-look-up-requires c κs = search needs
+holder-of-requires : tie.Need-holder-of-requires
+holder-of-requires c κs = search needs
 
 judge-hold-requires : tie.Need-judge-hold-requires
 judge-hold-requires c κs = search needs
@@ -70,7 +70,7 @@ returns-4 c = λ b n.
     let s = c .before .before .before .before .before in
     let g = c .before .before .before .parsed4 .given in
     rw (g .1)
-    (hold-judged b (s .args .before) (s .args .numbers .now) (s .args .requests .now) n (g .0 .0) (c .before .look-up .result) (c .before .look-up .ensures) (c .judge-hold .ensures))
+    (hold-judged b (s .args .before) (s .args .numbers .now) (s .args .requests .now) n (g .0 .0) (c .before .holder-of .result) (c .before .holder-of .ensures) (c .judge-hold .ensures))
 
 returns-5 : tie.Need-returns-5
 unfolding itemOf
@@ -87,7 +87,7 @@ judge-spec =
     enum-known-parsed-3
     judge-job-requires
     enum-known-parsed-4
-    look-up-requires
+    holder-of-requires
     judge-hold-requires
     enum-known-parsed-5
     returns
