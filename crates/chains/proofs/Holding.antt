@@ -3,42 +3,41 @@
 use mathlib.Core.Bool.{true, false}
 use mathlib.Core.List.{List, [], _∷_}
 use mathlib.Core.Logic.{_⊎_, inr, ⊎-elim}
-use mathlib.Core.Option.{none, some}
 use mathlib.Core.Path.{_≡_, sym, _∙_}
-use Prim.Native.Nat.{ℕ, _+_, _≤_, _<_}
-use native.Mathlib.Numerals.{add-one}
+use Prim.Native.Nat.{ℕ, _≤_}
 use native.Mathlib.Omega.{arith}
-use borrow.Author.Tests.{eq-eqb, eqb-false, eqb-true, ne-eqb}
+use borrow.Author.Tests.{eqb-false, eqb-true}
 use lib.Dec.{eqb}
-use lib.ListN.{drop, drop-of-length-le, getD, getD-replicate, length, replicate, set}
-use lib.Seq.{drop-cons, getD-set-other, getD-set-same}
+use lib.ListN.{getD, getD-replicate, length, replicate, set}
+use lib.Seq.{getD-set-other, getD-set-same}
 use Rattle.chains.proofs.Remaining.{which}
-use Rattle.chains.proofs.Walks.{nobody-at}
+use Rattle.chains.proofs.Walks.{job-at, nobody-at}
 use Rattle.chains.specs.Waits.{HolderAt, PlaceOrNobody, atPlace, mostResources}
+use Rattle.columns.proofs.LookedUp.{found-job}
 use Rattle.columns.specs.Columns.{Column}
-use Rattle.rules.specs.Lists.{find}
+use Rattle.columns.specs.LookUp.{StandsAt}
+use Rattle.columns.specs.declared.Found.{Found}
+use Rattle.rules.specs.Lists.{Rising, find}
 use Rattle.rules.specs.Plan.{holderIn}
 use Rattle.rules.specs.Refusals.{isHolder}
-use Rattle.rules.specs.TableText.{mostHolds, mostJobs, noJob}
+use Rattle.rules.specs.TableText.{mostHolds, mostJobs}
 use Rattle.rules.specs.declared.Hold.{Hold}
 use Rattle.rules.specs.declared.Job.{Job}
 
--- a search for the job of a number, from a place on
-module _ (js : List Job) (numbers : List ℕ) (number-of : Column (λ j. j .number) js numbers) (h : Hold) (i : ℕ) where
-  pub holder-here : i < length js → getD numbers i 0 ≡ h .holder → find (isHolder h) (drop i js) ≡ some (getD js i noJob)
+-- the place found for the line's job is its place, and where nothing is found, 64 is nobody's
+module _ (js : List Job) (numbers : List ℕ) (rising : Rising (λ j. j .number) js)
+    (number-of : Column (λ j. j .number) js numbers) (h : Hold) where
+  pub holder-there : (place : ℕ) → StandsAt numbers (length js) (h .holder) (Found.At place)
+      → atPlace js place ≡ find (isHolder h) js
   unfolding isHolder
-  holder-here l e =
-      rw (drop-cons js i noJob l) (rw (eq-eqb (getD js i noJob .number) (h .holder) (sym (number-of i) ∙ e)))
+  holder-there place stands =
+      job-at js place (stands .0) ∙ found-job (h .holder) js numbers rising number-of (Found.At place) stands
 
-  pub holder-behind : i < length js → (getD numbers i 0 ≡ h .holder → ⊥)
-      → find (isHolder h) (drop i js) ≡ find (isHolder h) (drop (i + 1) js)
+  pub holder-nowhere : length js ≤ mostJobs → StandsAt numbers (length js) (h .holder) Found.Nowhere
+      → atPlace js mostJobs ≡ find (isHolder h) js
   unfolding isHolder
-  holder-behind l e =
-      rw (add-one i, drop-cons js i noJob l)
-      (rw (ne-eqb (getD js i noJob .number) (h .holder) (λ f. e (number-of i ∙ f))))
-
-  pub holder-nowhere : length js ≤ i → find (isHolder h) (drop i js) ≡ none
-  holder-nowhere l = rw (drop-of-length-le js l)
+  holder-nowhere few stands =
+      nobody-at js mostJobs few ∙ found-job (h .holder) js numbers rising number-of Found.Nowhere stands
 
 module _ (js : List Job) where
   pub no-line : length js ≤ mostJobs → HolderAt js [] (replicate mostResources mostJobs)

@@ -32,8 +32,8 @@ pub record Comparable (clock mhz cycles termination : ℕ) : Type 0 where
 
 -- The place of the job of this number, or 64 where there is none.
 pub record PlaceOf (numbers : List ℕ) (count number r : ℕ) : Type 0 where
-  pub place : (js : List Job) → length js ≡ count → Column (λ j. j .number) js numbers → (h : Hold)
-      → h .holder ≡ number → atPlace js r ≡ find (isHolder h) js
+  pub place : (js : List Job) → length js ≡ count → Rising (λ j. j .number) js → Column (λ j. j .number) js numbers
+      → (h : Hold) → h .holder ≡ number → atPlace js r ≡ find (isHolder h) js
   pub place-or-nobody : (js : List Job) → length js ≡ count → PlaceOrNobody js r
 
 -- Counts and resources in their ranges: each has a place.
@@ -44,8 +44,8 @@ pub record Holdable (holds : List Hold) (hold-count job-count : ℕ) : Type 0 wh
 
 -- The holders of the resources, by their places.
 pub record Holders (holds : List Hold) (numbers : List ℕ) (hold-count job-count : ℕ) (r : List ℕ) : Type 0 where
-  pub holders : (js : List Job) → length js ≡ job-count → Column (λ j. j .number) js numbers
-      → HolderAt js (take hold-count holds) r
+  pub holders : (js : List Job) → length js ≡ job-count → Rising (λ j. j .number) js
+      → Column (λ j. j .number) js numbers → HolderAt js (take hold-count holds) r
 
 -- The place of the job that the job at this place waits for among those that remain, or 64 for nobody.
 pub record WaitsFor (place : ℕ) (requests holder-at fates : List ℕ) (r : ℕ) : Type 0 where

@@ -1,5 +1,6 @@
 // Steps 1 to 4 of "From jobs to a plan" on lent columns: who is late alone, who leaves a ring, and what a chain takes and
 // gives. A job is known by its place in the table, and whom it waits for stands as a place in a column, 64 for nobody.
+use columns::Found;
 use rules::Hold;
 use rules::MOST_HOLDS;
 use rules::MOST_JOBS;
@@ -33,14 +34,11 @@ fn place_of(numbers: &[u64; MOST_JOBS], count: usize, number: u64) -> u64
     requires { ⌜ count ≤ mostJobs ⌝ }
     ensures { λ r. ⌜ PlaceOf (now (numbers .entry)) count number r ⌝ }
 {
-    let mut i = 0;
-    while i < count {
-        if numbers[i] == number {
-            return i as u64;
-        }
-        i += 1;
-    }
-    NOBODY
+    let found = columns::look_up(numbers, count, number);
+    let Found::At(place) = found else {
+        return NOBODY;
+    };
+    place as u64
 }
 
 // Step 2, "holds the resource": at each resource the place of the job that its H line names. The H lines are gone through

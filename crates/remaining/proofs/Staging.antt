@@ -66,7 +66,7 @@ module _ {holds : List Hold} {hold-count : ℕ} {number cycles worth termination
         let long = sym (terms-of .job-count) in
         let rising = valid .jobs-rise in
         let at : HolderAt (t .jobs) (t .holds) holder-at =
-        rw holds-of at (holders .holders (t .jobs) long number-of) in
+        rw holds-of at (holders .holders (t .jobs) long rising number-of) in
         let late-of : (i : ℕ) → i < length (t .jobs) → getD late i 0 ≡ fateIfLate t (getD (t .jobs) i noJob) =
         late-fates .late t terms-of cycles-of termination-of in
         let timely-waits-of =

@@ -12,6 +12,7 @@ use Rattle.chains.proofs.holders.Statement.{statement}
 use Rattle.chains.proofs.holders.Tie as tie
 use Rattle.chains.specs.Waits.{HolderAt, mostResources}
 use Rattle.columns.specs.Columns.{Column}
+use Rattle.rules.specs.Lists.{Rising}
 use Rattle.rules.specs.TableText.{mostHolds, noHold}
 use Rattle.rules.specs.declared.Hold.{Hold}
 use Rattle.rules.specs.declared.Job.{Job}
@@ -31,7 +32,7 @@ abbrev Inv-loop : tie.InvT-loop
 Inv-loop hold-count numbers job-count holds holder-at₀ i₀ holder-at i =
     (i ≤ hold-count)
     × (length holder-at ≡ mostResources)
-    × ((js : List Job) → length js ≡ job-count → Column (λ j. j .number) js numbers
+    × ((js : List Job) → length js ≡ job-count → Rising (λ j. j .number) js → Column (λ j. j .number) js numbers
     → HolderAt js (drop i (take hold-count holds)) holder-at)
 
 abbrev μ-loop : tie.MeasureT-loop
@@ -44,7 +45,7 @@ loop-holds : tie.Need-loop-holds Inv-loop μ-loop
 loop-holds c = (
   omega arith,
   refl,
-  λ js long number-of.
+  λ js long rising number-of.
       rw (no-line-left (c .args .t1) (c .args .hold-count) (omega (arith, places-long c, c .pre .few-holds)))
       (no-line js (omega (arith, c .pre .few-jobs))),
 )
@@ -82,14 +83,14 @@ loop-again c =
     let small = start .pre .resources-small (loop .i - 1) (omega arith) in (
       omega arith,
       rw length-set (loop .inv .1),
-      λ js long number-of.
+      λ js long rising number-of.
           rw
           (line-before (start .args .t1) (start .args .hold-count)
           (omega (arith, places-long start, start .pre .few-holds)) (loop .i) (omega arith) (omega arith))
           (one-line-more js hold (drop (loop .i) (take (start .args .hold-count) (start .args .t1))) (loop .holder-at)
           (c .place-of .result) (loop .inv .1) small
-          (c .place-of .ensures .place js long number-of hold refl) (c .place-of .ensures .place-or-nobody js long)
-          (loop .inv .2 js long number-of)),
+          (c .place-of .ensures .place js long rising number-of hold refl) (c .place-of .ensures .place-or-nobody js long)
+          (loop .inv .2 js long rising number-of)),
     )
 
 returns : tie.Need-returns Inv-loop μ-loop
@@ -98,8 +99,8 @@ returns c =
     let loop = c .before .loop in
     let none : loop .i ≡ 0 = omega arith in
     record {
-      holders = λ js long number-of.
-          rw none at (loop .inv .2 js long number-of);
+      holders = λ js long rising number-of.
+          rw none at (loop .inv .2 js long rising number-of);
     }
 
 pub holders-spec : {M : Type 1} → statement M
