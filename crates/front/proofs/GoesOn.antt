@@ -7,8 +7,8 @@ use denote.Ref.{RefT, now}
 use Rattle.rules.specs.Answers.{Answer, fieldSays}
 use Rattle.text.specs.Fields.{FieldsTold}
 use Rattle.text.specs.declared.Cursor.{Cursor}
-use Rattle.front.specs.Reading.{Started, takenAt, walkedFrom}
-use Rattle.front.specs.Walked.{ReaderTakes, ended, goes-on}
+use Rattle.front.specs.Reading.{Started, takenAt}
+use Rattle.front.specs.Walked.{ReaderTakes, ended, goes-on, walkedFrom}
 use Rattle.front.specs.declared.Kind.{Kind}
 use Rattle.front.specs.declared.Reader.{Reader}
 

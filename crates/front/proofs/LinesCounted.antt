@@ -23,8 +23,8 @@ use Rattle.text.proofs.Rows.{digits-stand, stands}
 use Rattle.text.specs.Fields.{FieldsTold, behindByte, front, letterAt, lineBehind, mostLine, numberAt, refusedField, standsAt}
 use Rattle.text.specs.declared.Cursor.{Cursor}
 use Rattle.text.specs.declared.Taken.{Taken}
-use Rattle.front.specs.Reading.{Started, Took, firstPlace, takenAt, walkedFrom}
-use Rattle.front.specs.Walked.{LineCounted, ReaderTakes, lineFeeds}
+use Rattle.front.specs.Reading.{Started, Took, firstPlace, takenAt}
+use Rattle.front.specs.Walked.{LineCounted, ReaderTakes, lineFeeds, walkedFrom}
 use Rattle.front.specs.declared.Kind.{Kind}
 use Rattle.front.specs.declared.Reader.{Reader}
 use Rattle.front.proofs.GoesOn.{reader-as-cursor}

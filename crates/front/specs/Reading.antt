@@ -1,6 +1,6 @@
 -- Document 01, "The table text": "one reader keeps the text and the reading place together". What each call over a reader
--- promises, by the cursor's definitions: each promise is the whole value that is handed back.
-use mathlib.Core.List.{List, [], _∷_}
+-- promises, by the cursor's definitions: each promise says the whole value that is handed back.
+use mathlib.Core.List.{List}
 use mathlib.Core.Path.{_≡_}
 use Prim.Native.Nat.{ℕ}
 use denote.Ref.{RefT, now}
@@ -30,11 +30,6 @@ takenAt text place Kind.Last = numberAt text place lineFeed
 -- what is taken where a reader stands
 abbrev pub takenBy : Reader → Kind → FieldsTold
 takenBy reader kind = takenAt (now (reader .text)) (reader .place) kind
-
--- the way through a text, field by field: what is taken of each, with the place behind it
-abbrev pub walkedFrom : List ℕ → Cursor → List Kind → List FieldsTold
-walkedFrom text place [] = []
-walkedFrom text place (kind ∷ kinds) = takenAt text place kind ∷ walkedFrom text (takenAt text place kind .next) kinds
 
 -- a reader is made: it keeps the text and the place that it was given
 pub record Started (text : RefT (List ℕ)) (place : Cursor) (r : Reader) : Type 0 where

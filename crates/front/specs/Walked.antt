@@ -1,4 +1,4 @@
--- A walk through a text, field by field: which line each place stands in, and which kind each field is.
+-- A walk through a text, field by field: what is taken of each, which line each place stands in, and which kind each field is.
 use mathlib.Core.Bool.{cond}
 use mathlib.Core.List.{List, [], _∷_}
 use mathlib.Core.Path.{_≡_}
@@ -12,7 +12,7 @@ use Rattle.rules.specs.declared.Field.{Field}
 use Rattle.text.specs.FieldPlaces.{fieldsAt}
 use Rattle.text.specs.Fields.{FieldsTold}
 use Rattle.text.specs.declared.Cursor.{Cursor}
-use Rattle.front.specs.Reading.{Moved, Next, Placed}
+use Rattle.front.specs.Reading.{Moved, Next, Placed, takenAt}
 use Rattle.front.specs.declared.Kind.{Kind}
 use Rattle.front.specs.declared.Reader.{Reader}
 
@@ -24,6 +24,11 @@ lineFeeds bytes = length (keep (λ b. eqb b lineFeed) bytes)
 pub record LineCounted (text : List ℕ) (place : Cursor) : Type 0 where
   pub within : place .at ≤ length text
   pub line : place .line ≡ lineFeeds (take (place .at) text) + 1
+
+-- the way through a text, field by field: what is taken of each, with the place behind it
+abbrev pub walkedFrom : List ℕ → Cursor → List Kind → List FieldsTold
+walkedFrom text place [] = []
+walkedFrom text place (kind ∷ kinds) = takenAt text place kind ∷ walkedFrom text (takenAt text place kind .next) kinds
 
 -- the reader's way: any fields, readers and places that the promises of `next`, `moved` and `place` allow
 pub data ReaderTakes : Reader → List Kind → List FieldsTold → Type 0 where

@@ -135,7 +135,7 @@ fn clock_line(clock: u64, budget: u64) -> ClockLine
 }
 
 // What the first line alone says: the clock and the budget of the T line, or the refusal of line 1. The reader takes the
-// letter and both numbers; a line that begins with another letter is none of its own, and is judged as a line of a table.
+// letter and both numbers; a line that begins with another letter is judged as a line of a table.
 pub fn clock_and_budget(text: &[u8]) -> ClockLine
     ensures { λ r. ⌜ clockLineSays r ≡ firstLine (now (text .entry)) ⌝ }
 {

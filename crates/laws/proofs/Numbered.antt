@@ -24,15 +24,16 @@ less-equal-or-greater (suc m) (suc n) =
     (⊎-elim (λ (e : m ≡ n). inr (inl (ap suc e))) (λ (h : n < m). inr (inr (omega arith))))
     (less-equal-or-greater m n)
 
+-- the elements behind the first rise too
+pub rising-others : {A : Type 0} {f : A → ℕ} {x : A} {xs : List A} → Rising f (x ∷ xs) → Rising f xs
+rising-others one-element = no-element
+rising-others (_below_ l r) = r
+
 module _ {A : Type 0} (f : A → ℕ) (d : A) where
   first-least : {x : A} {xs : List A} → Rising f (x ∷ xs) → (q : ℕ) → q < length xs → f x < f (getD xs q d)
   first-least one-element q h = absurd (omega arith)
   first-least (_below_ l r) zero h = l
   first-least (_below_ l r) (suc q) h = lt-trans l (first-least r q (omega arith))
-
-  rising-others : {x : A} {xs : List A} → Rising f (x ∷ xs) → Rising f xs
-  rising-others one-element = no-element
-  rising-others (_below_ l r) = r
 
   -- at a later place stands a greater number
   pub later-greater : (xs : List A) → Rising f xs → (p q : ℕ) → p < q → q < length xs

@@ -1,23 +1,21 @@
 -- A text is its parts with the byte put back between them, and parts without the byte are what it is parted into: the
 -- parting goes byte by byte, and at each byte b it begins a part. Lines and fields are both parted so. Assumes nothing.
-use mathlib.Core.Bool.{Bool, true, false, cond, false≢true, _||_}
+use mathlib.Core.Bool.{Bool, true, false, cond}
 use mathlib.Core.List.{List, [], _∷_, _++_}
-use mathlib.Core.Path.{_≡_, refl, sym}
+use mathlib.Core.Path.{_≡_, refl}
 use Prim.Native.Nat.{ℕ, _≤_}
 use native.Mathlib.Omega.{arith}
-use borrow.Author.Tests.{eq-eqb, eqb-true}
+use borrow.Author.Tests.{eqb-true}
 use lib.Dec.{eqb}
 use lib.ListN.{length}
 use Rattle.rules.specs.Lists.{Each, any, none-left, _and_}
 use Rattle.rules.specs.TableText.{ontoFirst, partedBy}
+use Rattle.laws.proofs.Choices.{neither}
+use Rattle.laws.proofs.Parts.{parts-more, parts-one}
 
 -- the byte does not stand in the part
 abbrev pub Without : ℕ → List ℕ → Type 0
 Without b part = any (λ x. eqb x b) part ≡ false
-
-neither : (s t : Bool) → s || t ≡ false → (s ≡ false) × (t ≡ false)
-neither true t e = absurd (false≢true (sym e))
-neither false t e = (refl, e)
 
 pub without-append : (b : ℕ) (s t : List ℕ) → Without b s → Without b t → Without b (s ++ t)
 without-append b [] t v w = w
@@ -34,24 +32,13 @@ unfolding rejoined
 rejoined-first b p [] h = absurd (omega arith)
 rejoined-first b p (q ∷ ps) h = refl
 
--- a part without the byte stands alone; with the byte behind it, it comes before the parts of the rest
-parted-alone : (b : ℕ) (part : List ℕ) → Without b part → partedBy b part ≡ part ∷ []
-unfolding partedBy ontoFirst
-parted-alone b [] w = refl
-parted-alone b (x ∷ part) w = let h = neither (eqb x b) _ w in rw (h .0, parted-alone b part (h .1))
-
-parted-first : (b : ℕ) (part rest : List ℕ) → Without b part → partedBy b (part ++ b ∷ rest) ≡ part ∷ partedBy b rest
-unfolding partedBy ontoFirst
-parted-first b [] rest w = rw (eq-eqb b b refl)
-parted-first b (x ∷ part) rest w = let h = neither (eqb x b) _ w in rw (h .0, parted-first b part rest (h .1))
-
 -- Parts without the byte, with the byte between them, are parted into themselves.
 pub rejoined-parted : (b : ℕ) (ps : List (List ℕ)) → 1 ≤ length ps → Each (Without b) ps → partedBy b (rejoined b ps) ≡ ps
 unfolding rejoined
 rejoined-parted b [] h none-left = absurd (omega arith)
-rejoined-parted b (p ∷ []) h (w and ws) = parted-alone b p w
+rejoined-parted b (p ∷ []) h (w and ws) = parts-one b p w
 rejoined-parted b (p ∷ (q ∷ ps)) h (w and ws) =
-    rw (parted-first b p (rejoined b (q ∷ ps)) w, rejoined-parted b (q ∷ ps) (omega arith) ws)
+    rw (parts-more b p (rejoined b (q ∷ ps)) w, rejoined-parted b (q ∷ ps) (omega arith) ws)
 
 -- There is a part, and the parts make the text again.
 pub parted-some : (b : ℕ) (s : List ℕ) → 1 ≤ length (partedBy b s)

@@ -11,6 +11,7 @@ use lib.Dec.{eqb}
 use lib.ListN.{length}
 use Rattle.rules.specs.TableText.{ontoFirst, partedBy}
 use Rattle.laws.specs.FirstLine.{behind, has, upTo}
+use Rattle.laws.proofs.Choices.{neither}
 
 -- the parts behind the first
 abbrev further : ℕ → List ℕ → List (List ℕ)
@@ -29,17 +30,13 @@ unfolding partedBy upTo behind
 parts b [] = refl
 parts b (x ∷ s) = parts-by-test (eqb x b) b x s (parts b s)
 
-both-false : (t u : Bool) → (t || u) ≡ false → (t ≡ false) × (u ≡ false)
-both-false true u h = (h, cc)
-both-false false u h = (refl, h)
-
 -- bytes that are not b are passed over
 pub passed : (b : ℕ) (ds r : List ℕ) → has b ds ≡ false
     → (has b (ds ++ r) ≡ has b r) × (upTo b (ds ++ r) ≡ ds ++ upTo b r) × (behind b (ds ++ r) ≡ behind b r)
 unfolding upTo behind
 passed b [] r h = (refl, refl, refl)
 passed b (x ∷ ds) r h =
-    let n = both-false (eqb x b) (has b ds) h in
+    let n = neither (eqb x b) (has b ds) h in
     let p = passed b ds r (n .1) in
     (rw (n .0) (p .0), rw (n .0, p .1), rw (n .0) (p .2))
 

@@ -12,7 +12,8 @@ use Rattle.columns.proofs.LookedUp.{found-job}
 use Rattle.columns.specs.Columns.{Column}
 use Rattle.columns.specs.LookUp.{StandsAt}
 use Rattle.columns.specs.declared.Found.{Found}
-use Rattle.rules.specs.Lists.{Rising, no-element, one-element, _below_, any}
+use Rattle.laws.proofs.Numbered.{rising-others}
+use Rattle.rules.specs.Lists.{Rising, one-element, _below_, any}
 use Rattle.rules.specs.Refusals.{asksOwn, isHolder}
 use Rattle.rules.specs.declared.Hold.{Hold}
 use Rattle.rules.specs.declared.Job.{Job}
@@ -40,16 +41,12 @@ by-first h x xs true e r ih =
     rw e (rw n (rw (or-false (eqb (x .request) (h .resource)))))
 by-first h x xs false e r ih = rw e ih
 
-rest-rises : (x : Job) (xs : List Job) → Rising (λ (j : Job). j .number) (x ∷ xs) → Rising (λ (j : Job). j .number) xs
-rest-rises x [] r = no-element
-rest-rises x (y ∷ ys) (h below r) = r
-
 pub holder-fault-looked-up : (h : Hold) (js : List Job) → Rising (λ (j : Job). j .number) js
     → holder-fault js h ≡ holderFault (lookedUp js (h .holder)) h
 unfolding holder-fault lookedUp
 holder-fault-looked-up h [] r = refl
 holder-fault-looked-up h (x ∷ xs) r =
-    by-first h x xs (eqb (x .number) (h .holder)) refl r (holder-fault-looked-up h xs (rest-rises x xs r))
+    by-first h x xs (eqb (x .number) (h .holder)) refl r (holder-fault-looked-up h xs (rising-others r))
 
 -- what the job at the place found requests, or that there is none
 abbrev pub holderAt : List ℕ → Found → Holder
