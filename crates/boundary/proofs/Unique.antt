@@ -11,7 +11,7 @@ use Rattle.boundary.proofs.cuddlelamb_list.Reads as list
 use Rattle.boundary.proofs.cuddlelamb_plan.Reads as plan
 use Rattle.boundary.proofs.cuddlelamb_read.Reads as read
 use Rattle.boundary.proofs.cuddlelamb_write.Reads as write
-use Rattle.boundary.specs.Told.{AllocatedAs, CostsAs, ListedAs, PlannedAs, ReadAs, WrittenAs, costsSays, cyclesSays, planSays, tableSays, textSays}
+use Rattle.boundary.specs.Told.{AllocateTold, CostsTold, ListTold, PlanTold, ReadTold, WriteTold, costsSays, cyclesSays, planSays, tableSays, textSays}
 use Rattle.boundary.specs.declared.CostsAnswer.{CostsAnswer}
 use Rattle.boundary.specs.declared.CyclesAnswer.{CyclesAnswer}
 use Rattle.boundary.specs.declared.PlanAnswer.{PlanAnswer}
@@ -21,6 +21,7 @@ use Rattle.laws.proofs.Unique.{known-by}
 use Rattle.rules.specs.Answers.{Answer}
 use Rattle.rules.specs.TableText.{nth}
 use Rattle.rules.specs.declared.Table.{Table}
+use Rattle.rules.specs.Refusals.{read}
 
 -- an answer is known by what it says
 plan-known : (r s : PlanAnswer) → planSays r ≡ planSays s → r ≡ s
@@ -46,54 +47,54 @@ table-known r s e t =
     ap (λ (a : Answer). record { number = a .number; line = a .line; table = r .table }) e
     ∙ ap (λ t. record { number = s .number; line = s .line; table = t }) t
 
-pub plan-unique : (text order fates : List ℕ) (r s : PlanAnswer) (a b a′ b′ : List ℕ) → PlannedAs text order fates r a b
-    → PlannedAs text order fates s a′ b′ → (r ≡ s) × (a ≡ a′) × (b ≡ b′)
+pub plan-unique : (text order fates : List ℕ) (r s : PlanAnswer) (a b a′ b′ : List ℕ) → PlanTold (read text) order fates r a b
+    → PlanTold (read text) order fates s a′ b′ → (r ≡ s) × (a ≡ a′) × (b ≡ b′)
 plan-unique text order fates r s a b a′ b′ p q = (
   plan-known r s (p .answer ∙ sym (q .answer)),
   p .order-left ∙ sym (q .order-left),
   p .fates-left ∙ sym (q .fates-left),
 )
 
-pub list-unique : (text out : List ℕ) (r s : TextAnswer) (a b : List ℕ) → ListedAs text out r a → ListedAs text out s b
+pub list-unique : (text out : List ℕ) (r s : TextAnswer) (a b : List ℕ) → ListTold text out r a → ListTold text out s b
     → (r ≡ s) × (a ≡ b)
 list-unique text out r s a b p q = (text-known r s (p .answer ∙ sym (q .answer)), p .out-left ∙ sym (q .out-left))
 
-pub read-unique : (text : List ℕ) (r s : TableAnswer) → ReadAs text r → ReadAs text s → r ≡ s
+pub read-unique : (text : List ℕ) (r s : TableAnswer) → ReadTold text r → ReadTold text s → r ≡ s
 read-unique text r s p q = table-known r s (p .answer ∙ sym (q .answer)) (p .table ∙ sym (q .table))
 
-pub write-unique : (table : Table) (out : List ℕ) (r s : TextAnswer) (a b : List ℕ) → WrittenAs table out r a
-    → WrittenAs table out s b → (r ≡ s) × (a ≡ b)
+pub write-unique : (table : Table) (out : List ℕ) (r s : TextAnswer) (a b : List ℕ) → WriteTold table out r a
+    → WriteTold table out s b → (r ≡ s) × (a ≡ b)
 write-unique table out r s a b p q = (text-known r s (p .answer ∙ sym (q .answer)), p .out-left ∙ sym (q .out-left))
 
-pub allocate-unique : (mean variance assurance : ℕ) (r s : CyclesAnswer) → AllocatedAs mean variance assurance r
-    → AllocatedAs mean variance assurance s → r ≡ s
+pub allocate-unique : (mean variance assurance : ℕ) (r s : CyclesAnswer) → AllocateTold mean variance assurance r
+    → AllocateTold mean variance assurance s → r ≡ s
 allocate-unique mean variance assurance r s p q = cycles-known r s (p .answer ∙ sym (q .answer))
 
-pub costs-unique : (model : ℕ) (r s : CostsAnswer) → CostsAs model r → CostsAs model s → r ≡ s
+pub costs-unique : (model : ℕ) (r s : CostsAnswer) → CostsTold model r → CostsTold model s → r ≡ s
 costs-unique model r s p q = costs-known r s (p .answer ∙ sym (q .answer))
 
 -- The contract of each call is its record.
 pub plan-says : (l : Lfts 3) (text order fates order′ fates′ : RefT (List ℕ)) (r : PlanAnswer)
     → plan.Learnt l (text, (order, (fates, tt))) r (text, (order′, (fates′, tt)))
-    ≡ PlannedAs (now text) (now order) (now fates) r (now order′) (now fates′)
+    ≡ PlanTold (read (now text)) (now order) (now fates) r (now order′) (now fates′)
 plan-says l text order fates order′ fates′ r = refl
 
 pub list-says : (l : Lfts 2) (text out out′ : RefT (List ℕ)) (r : TextAnswer)
-    → list.Learnt l (text, (out, tt)) r (text, (out′, tt)) ≡ ListedAs (now text) (now out) r (now out′)
+    → list.Learnt l (text, (out, tt)) r (text, (out′, tt)) ≡ ListTold (now text) (now out) r (now out′)
 list-says l text out out′ r = refl
 
 pub read-says : (l : Lfts 1) (text : RefT (List ℕ)) (r : TableAnswer)
-    → read.Learnt l (text, tt) r (text, tt) ≡ ReadAs (now text) r
+    → read.Learnt l (text, tt) r (text, tt) ≡ ReadTold (now text) r
 read-says l text r = refl
 
 pub write-says : (l : Lfts 1) (table : Table) (out out′ : RefT (List ℕ)) (r : TextAnswer)
-    → write.Learnt l (table, (out, tt)) r (table, (out′, tt)) ≡ WrittenAs table (now out) r (now out′)
+    → write.Learnt l (table, (out, tt)) r (table, (out′, tt)) ≡ WriteTold table (now out) r (now out′)
 write-says l table out out′ r = refl
 
 pub allocate-says : (l : Lfts 0) (mean variance assurance : ℕ) (r : CyclesAnswer)
     → allocate.Learnt l (mean, (variance, (assurance, tt))) r (mean, (variance, (assurance, tt)))
-    ≡ AllocatedAs mean variance assurance r
+    ≡ AllocateTold mean variance assurance r
 allocate-says l mean variance assurance r = refl
 
-pub costs-says : (l : Lfts 0) (model : ℕ) (r : CostsAnswer) → costs.Learnt l (model, tt) r (model, tt) ≡ CostsAs model r
+pub costs-says : (l : Lfts 0) (model : ℕ) (r : CostsAnswer) → costs.Learnt l (model, tt) r (model, tt) ≡ CostsTold model r
 costs-says l model r = refl

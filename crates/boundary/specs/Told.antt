@@ -11,8 +11,8 @@ use Rattle.rules.specs.Answers.{Answer}
 use Rattle.rules.specs.Costs.{suppliedCosts}
 use Rattle.rules.specs.Cycles.{allocation}
 use Rattle.rules.specs.Listing.{listing}
-use Rattle.rules.specs.Plan.{planning}
-use Rattle.rules.specs.Refusals.{reading, writing}
+use Rattle.rules.specs.Plan.{planningOf}
+use Rattle.rules.specs.Refusals.{reading, writing, Taken}
 use Rattle.rules.specs.declared.Table.{Table}
 
 -- each answer, as the rules write one
@@ -32,30 +32,30 @@ abbrev pub costsSays : CostsAnswer → Answer
 costsSays a = record { number = a .number; line = a .line; values = a .costs }
 
 -- "cuddlelamb_plan"
-pub record PlannedAs (text order fates : List ℕ) (r : PlanAnswer) (order′ fates′ : List ℕ) : Type 0 where
-  pub answer : planSays r ≡ planning text order fates .answer
-  pub order-left : order′ ≡ planning text order fates .order
-  pub fates-left : fates′ ≡ planning text order fates .fates
+pub record PlanTold (k : Taken) (order fates : List ℕ) (r : PlanAnswer) (order′ fates′ : List ℕ) : Type 0 where
+  pub answer : planSays r ≡ planningOf k order fates .answer
+  pub order-left : order′ ≡ planningOf k order fates .order
+  pub fates-left : fates′ ≡ planningOf k order fates .fates
 
 -- "cuddlelamb_list"
-pub record ListedAs (text out : List ℕ) (r : TextAnswer) (out′ : List ℕ) : Type 0 where
+pub record ListTold (text out : List ℕ) (r : TextAnswer) (out′ : List ℕ) : Type 0 where
   pub answer : textSays r ≡ listing text out .answer
   pub out-left : out′ ≡ listing text out .out
 
 -- "cuddlelamb_read"
-pub record ReadAs (text : List ℕ) (r : TableAnswer) : Type 0 where
+pub record ReadTold (text : List ℕ) (r : TableAnswer) : Type 0 where
   pub answer : tableSays r ≡ reading text .answer
   pub table : r .table ≡ reading text .table
 
 -- "cuddlelamb_write"
-pub record WrittenAs (table : Table) (out : List ℕ) (r : TextAnswer) (out′ : List ℕ) : Type 0 where
+pub record WriteTold (table : Table) (out : List ℕ) (r : TextAnswer) (out′ : List ℕ) : Type 0 where
   pub answer : textSays r ≡ writing table out .answer
   pub out-left : out′ ≡ writing table out .out
 
 -- "cuddlelamb_allocate"
-pub record AllocatedAs (mean variance assurance : ℕ) (r : CyclesAnswer) : Type 0 where
+pub record AllocateTold (mean variance assurance : ℕ) (r : CyclesAnswer) : Type 0 where
   pub answer : cyclesSays r ≡ allocation mean variance assurance
 
 -- "cuddlelamb_costs"
-pub record CostsAs (model : ℕ) (r : CostsAnswer) : Type 0 where
+pub record CostsTold (model : ℕ) (r : CostsAnswer) : Type 0 where
   pub answer : costsSays r ≡ suppliedCosts model

@@ -14,7 +14,8 @@ use rules::number_of;
 use writer::write;
 ghost use mathlib.Core.Path.{_≡_};
 ghost use Rattle.boundary.specs.Numbers.{textAnswer, toldOf};
-ghost use Rattle.boundary.specs.Told.{AllocatedAs, CostsAs, ListedAs, PlannedAs, ReadAs, WrittenAs};
+ghost use Rattle.boundary.specs.Told.{AllocateTold, CostsTold, ListTold, PlanTold, ReadTold, WriteTold};
+ghost use Rattle.rules.specs.Refusals.{read};
 
 // A plan's job count, speed and energy.
 #[repr(C)]
@@ -95,7 +96,7 @@ fn text_answer(written: Written) -> TextAnswer
 
 #[no_mangle]
 pub extern "C" fn cuddlelamb_plan(text: &[u8], order: &mut [u64], fates: &mut [u64]) -> PlanAnswer
-    ensures { λ r. ⌜ PlannedAs (now (text .entry)) (now (order .entry)) (now (fates .entry)) r (now (order .exit)) (now (fates .exit)) ⌝ }
+    ensures { λ r. ⌜ PlanTold (read (now (text .entry))) (now (order .entry)) (now (fates .entry)) r (now (order .exit)) (now (fates .exit)) ⌝ }
 {
     let decision = plan_into(text, order, fates);
     match decision {
@@ -122,7 +123,7 @@ pub extern "C" fn cuddlelamb_plan(text: &[u8], order: &mut [u64], fates: &mut [u
 
 #[no_mangle]
 pub extern "C" fn cuddlelamb_list(text: &[u8], out: &mut [u8]) -> TextAnswer
-    ensures { λ r. ⌜ ListedAs (now (text .entry)) (now (out .entry)) r (now (out .exit)) ⌝ }
+    ensures { λ r. ⌜ ListTold (now (text .entry)) (now (out .entry)) r (now (out .exit)) ⌝ }
 {
     let written = list(text, out);
     text_answer(written)
@@ -130,7 +131,7 @@ pub extern "C" fn cuddlelamb_list(text: &[u8], out: &mut [u8]) -> TextAnswer
 
 #[no_mangle]
 pub extern "C" fn cuddlelamb_read(text: &[u8]) -> TableAnswer
-    ensures { λ r. ⌜ ReadAs (now (text .entry)) r ⌝ }
+    ensures { λ r. ⌜ ReadTold (now (text .entry)) r ⌝ }
 {
     let reading = read(text);
     let told = reading.verdict;
@@ -145,7 +146,7 @@ pub extern "C" fn cuddlelamb_read(text: &[u8]) -> TableAnswer
 
 #[no_mangle]
 pub extern "C" fn cuddlelamb_write(table: Table, out: &mut [u8]) -> TextAnswer
-    ensures { λ r. ⌜ WrittenAs table (now (out .entry)) r (now (out .exit)) ⌝ }
+    ensures { λ r. ⌜ WriteTold table (now (out .entry)) r (now (out .exit)) ⌝ }
 {
     let written = write(table, out);
     text_answer(written)
@@ -153,7 +154,7 @@ pub extern "C" fn cuddlelamb_write(table: Table, out: &mut [u8]) -> TextAnswer
 
 #[no_mangle]
 pub extern "C" fn cuddlelamb_allocate(mean: u64, variance: u64, assurance: u64) -> CyclesAnswer
-    ensures { λ r. ⌜ AllocatedAs mean variance assurance r ⌝ }
+    ensures { λ r. ⌜ AllocateTold mean variance assurance r ⌝ }
 {
     let allocated = allocate(mean, variance, assurance);
     match allocated {
@@ -172,7 +173,7 @@ pub extern "C" fn cuddlelamb_allocate(mean: u64, variance: u64, assurance: u64) 
 
 #[no_mangle]
 pub extern "C" fn cuddlelamb_costs(model: u64) -> CostsAnswer
-    ensures { λ r. ⌜ CostsAs model r ⌝ }
+    ensures { λ r. ⌜ CostsTold model r ⌝ }
 {
     let answer = supplied(model);
     let told = answer.verdict;

@@ -24,7 +24,7 @@ use Rattle.rules.specs.TableText.{mostHolds, mostJobs}
 use Rattle.rules.specs.declared.Hold.{Hold}
 use Rattle.rules.specs.declared.Job.{Job}
 
--- the place found for the line's job is its place, and where nothing is found, 64 is nobody's
+-- the place found for the line's job is its place, and where nothing is found, `mostJobs` is nobody's
 module _ (js : List Job) (numbers : List ℕ) (rising : Rising (λ j. j .number) js)
     (number-of : Column (λ j. j .number) js numbers) (h : Hold) where
   pub holder-there : (place : ℕ) → StandsAt numbers (length js) (h .holder) (Found.At place)

@@ -10,9 +10,10 @@ use lib.ListN.{getD, length}
 use Rattle.columns.specs.Columns.{AllBelow, Column, jobsAt}
 use Rattle.laws.proofs.Numbered.{same-place}
 use Rattle.rules.specs.Lists.{Rising, all, any}
-use Rattle.rules.specs.Plan.{equal, goesRather, leavesRing, less, onRing, same, weightIn}
+use Rattle.rules.specs.Plan.{equal, goesRather, leavesRing, less, onRing, same}
 use Rattle.rules.specs.TableText.{Records, noJob}
 use Rattle.rules.specs.declared.Job.{Job}
+use Rattle.steps.proofs.Given.{weight-is}
 
 module _ (numbers worth cycles : List ℕ) where
   -- what the columns tell of the job at a place
@@ -59,9 +60,10 @@ module _ (numbers worth cycles : List ℕ) where
       job = getD js place noJob
 
       rather-told : (p : ℕ) → goesRather t job (getD js p noJob) ≡ ratherAt t place p
-      unfolding goesRather weightIn less equal
+      unfolding goesRather less equal
       rather-told p =
-          rw (number-of p, worth-of p, cycles-of p, number-of place, worth-of place, cycles-of place)
+          rw (weight-is t job, weight-is t (getD js p noJob), weight-is t (toldAt place), weight-is t (toldAt p))
+          (rw (number-of p, worth-of p, cycles-of p, number-of place, worth-of place, cycles-of place))
 
       met-at-place : (ps : List ℕ) → AllBelow (length js) ps → any (same job) (jobsAt js ps) ≡ any (eqb place) ps
       met-at-place [] below = refl

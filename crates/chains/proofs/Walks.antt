@@ -15,7 +15,7 @@ use Rattle.rules.specs.Plan.{awaited, follow}
 use Rattle.rules.specs.TableText.{mostHolds, mostJobs, noJob}
 use Rattle.rules.specs.declared.Job.{Job}
 
--- a place below 64 is a job's
+-- a place below `mostJobs` is a job's
 pub is-place : (js : List Job) (p : ℕ) → PlaceOrNobody js p → p < mostJobs → p < length js
 is-place js p w h = ⊎-elim (λ (l : p < length js). l) (λ (e : p ≡ mostJobs). absurd (omega arith)) w
 

@@ -6,18 +6,15 @@ use mathlib.Core.Path.{_≡_}
 use Prim.Native.Nat.{ℕ, _+_, _*_, _≤_, _<_}
 use lib.ListN.{getD, length, take}
 use Rattle.chains.specs.Waits.{HolderAt, PlaceOrNobody, Remaining, Waits, atPlace, placesFrom}
-use Rattle.columns.specs.Columns.{AtMost, Column}
-use Rattle.entries.specs.Promises.{mostMhz, mostTime}
+use Rattle.columns.specs.Columns.{AtMost, Column, RunsOf, TermsOf}
+use Rattle.columns.specs.Ranges.{RunsInRange, TermsInRange}
+use Rattle.columns.specs.declared.Terms.{Terms}
 use Rattle.rules.specs.Lists.{Rising, find, keep, total}
-use Rattle.rules.specs.Plan.{awaited, cyclesOf, gives, goesRather, inRunningOrder, leavesRing, runsOf, topOf, waitsFor}
+use Rattle.rules.specs.Plan.{awaited, cyclesOf, gives, goesRather, farEndFirst, leavesRing, runsOf, topOf, waitsFor, Run}
 use Rattle.rules.specs.Refusals.{isHolder}
-use Rattle.rules.specs.TableText.{Records, mostCycles, mostHolds, mostJobs, noHold, noJob}
+use Rattle.rules.specs.TableText.{Records, mostCycles, mostHolds, mostJobs, mostMhz, mostTime, mostWorth, noHold, noJob}
 use Rattle.rules.specs.declared.Hold.{Hold}
 use Rattle.rules.specs.declared.Job.{Job}
-
--- The end of the range of a worth.
-abbrev pub mostWorth : ℕ
-mostWorth = 1000000
 
 -- A chain has a job, and at most one for each resource behind it.
 abbrev pub mostMembers : ℕ
@@ -30,7 +27,7 @@ pub record Comparable (clock mhz cycles termination : ℕ) : Type 0 where
   pub cycles-small : cycles ≤ mostCycles * mostMembers
   pub termination-small : termination ≤ mostTime
 
--- The place of the job of this number, or 64 where there is none.
+-- The place of the job of this number, or `mostJobs` where there is none.
 pub record PlaceOf (numbers : List ℕ) (count number r : ℕ) : Type 0 where
   pub place : (js : List Job) → length js ≡ count → Rising (λ j. j .number) js → Column (λ j. j .number) js numbers
       → (h : Hold) → h .holder ≡ number → atPlace js r ≡ find (isHolder h) js
@@ -47,7 +44,7 @@ pub record Holders (holds : List Hold) (numbers : List ℕ) (hold-count job-coun
   pub holders : (js : List Job) → length js ≡ job-count → Rising (λ j. j .number) js
       → Column (λ j. j .number) js numbers → HolderAt js (take hold-count holds) r
 
--- The place of the job that the job at this place waits for among those that remain, or 64 for nobody.
+-- The place of the job that the job at this place waits for among those that remain, or `mostJobs` for nobody.
 pub record WaitsFor (place : ℕ) (requests holder-at fates : List ℕ) (r : ℕ) : Type 0 where
   pub whom : (js : List Job) (holds : List Hold) (remains : Job → Bool) → Rising (λ j. j .number) js
       → Column (λ j. j .request) js requests → HolderAt js holds holder-at → Remaining js remains fates
@@ -89,19 +86,23 @@ pub record ChainCycles (place : ℕ) (waits cycles : List ℕ) (r : ℕ) : Type 
   pub along : r ≡ cyclesAlong waits cycles place
   pub at-most : r ≤ mostCycles * mostMembers
 
--- Columns in their ranges, and `all` the sum of the chain's cycles: no sum or product wraps.
-pub record Runnable (place : ℕ) (waits cycles worth termination : List ℕ) (clock mhz all : ℕ) : Type 0 where
+-- What a member gives that ends after so many cycles.
+pub record Gives (clock mhz cycles termination worth r : ℕ) : Type 0 where
+  pub gives-so : (t : Records) (m : Run) → t .clock ≡ clock → topOf t .mhz ≡ mhz → m .cyclesByEnd ≡ cycles
+      → m .job .termination ≡ termination → m .job .worth ≡ worth → r ≡ gives t m
+  pub at-most : r ≤ worth
+
+-- Columns and terms in their ranges, and `all` the sum of the chain's cycles: no sum or product wraps.
+pub record Runnable (place : ℕ) (waits cycles worth termination : List ℕ) (terms : Terms) (all : ℕ) : Type 0 where
+  pub runs-small : RunsInRange cycles termination
   pub worth-small : AtMost mostWorth worth
-  pub termination-small : AtMost mostTime termination
-  pub clock-small : clock ≤ mostTime
-  pub mhz-small : mhz ≤ mostMhz
+  pub terms-small : TermsInRange terms
   pub all-along : all ≡ cyclesAlong waits cycles place
   pub all-small : all ≤ mostCycles * mostMembers
 
--- What the chain's members give, run alone from the clock at this speed.
-pub record ChainGives (place : ℕ) (waits cycles worth termination : List ℕ) (clock mhz r : ℕ) : Type 0 where
+-- What the chain's members give, run alone from the clock at top speed.
+pub record ChainGives (place : ℕ) (waits cycles worth termination : List ℕ) (terms : Terms) (r : ℕ) : Type 0 where
   pub sum : (t : Records) (js : List Job) (next : Job → Option Job) → Waits js next waits → place < length js
-      → Column (λ j. j .cycles) js cycles → Column (λ j. j .worth) js worth
-      → Column (λ j. j .termination) js termination → t .clock ≡ clock → topOf t .mhz ≡ mhz
-      → r ≡ total (gives t) (runsOf (inRunningOrder (getD js place noJob ∷ awaited next (getD js place noJob))))
+      → RunsOf js cycles termination → Column (λ j. j .worth) js worth → TermsOf t terms
+      → r ≡ total (gives t) (runsOf (farEndFirst (getD js place noJob ∷ awaited next (getD js place noJob))))
   pub at-most : r ≤ mostWorth * mostMembers

@@ -1,4 +1,4 @@
--- Whom the jobs wait for, as a column: at the place of each job the place of the one it waits for, or 64 for nobody.
+-- Whom the jobs wait for, as a column: at the place of each job the place of the one it waits for, or `mostJobs` for nobody.
 use mathlib.Core.Bool.{Bool, cond}
 use mathlib.Core.List.{List, [], _∷_}
 use mathlib.Core.Logic.{_⊎_}
@@ -17,7 +17,7 @@ use Rattle.rules.specs.declared.Job.{Job}
 unfoldable pub atPlace : List Job → ℕ → Option Job
 atPlace js p = cond (ltb p (length js)) (some (getD js p noJob)) none
 
--- a place of a job, or 64 for nobody
+-- a place of a job, or `mostJobs` for nobody
 abbrev pub PlaceOrNobody : List Job → ℕ → Type 0
 PlaceOrNobody js p = (p < length js) ⊎ (p ≡ mostJobs)
 
@@ -36,7 +36,7 @@ placesFrom waits (suc n) at = cond (ltb at mostJobs) (at ∷ placesFrom waits n 
 abbrev pub mostResources : ℕ
 mostResources = mostHolds + 1
 
--- At each resource the place of the job that its H line names, or 64 where no H line names the resource or no job of the
+-- At each resource the place of the job that its H line names, or `mostJobs` where no H line names the resource or no job of the
 -- table is so numbered. (No H line names resource 0.)
 pub record HolderAt (js : List Job) (holds : List Hold) (holder-at : List ℕ) : Type 0 where
   pub few : length js ≤ mostJobs

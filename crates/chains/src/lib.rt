@@ -1,25 +1,26 @@
 // Steps 1 to 4 of "From jobs to a plan" on lent columns: who is late alone, who leaves a ring, and what a chain takes and
-// gives. A job is known by its place in the table, and whom it waits for stands as a place in a column, 64 for nobody.
+// gives. A job is known by its place in the table, and whom it waits for stands as a place in a column, `MOST_JOBS` for nobody.
 use columns::Found;
+use columns::Terms;
 use rules::Hold;
 use rules::MOST_HOLDS;
 use rules::MOST_JOBS;
 use rules::NO_FATE;
-ghost use mathlib.Core.Bool.{cond, not, _||_};
+ghost use mathlib.Core.Bool.{not, _||_};
 ghost use mathlib.Core.Path.{_≡_};
 ghost use Prim.Native.Nat.{_≤_, _<_};
 ghost use lib.Dec.{eqb};
-ghost use Rattle.chains.specs.Promises.{ChainCycles, ChainGives, Comparable, Holdable, Holders, LeavesRing};
-ghost use Rattle.chains.specs.Promises.{PlaceOf, Rather, Runnable, WaitsFor, Weighable, mostWorth};
+ghost use Rattle.chains.specs.Promises.{ChainCycles, ChainGives, Comparable, Gives, Holdable, Holders};
+ghost use Rattle.chains.specs.Promises.{LeavesRing, PlaceOf, Rather, Runnable, WaitsFor, Weighable};
 ghost use Rattle.columns.specs.Columns.{AtMost};
 ghost use Rattle.rules.specs.Plan.{endsBy};
-ghost use Rattle.rules.specs.TableText.{mostCycles, mostHolds, mostJobs};
+ghost use Rattle.rules.specs.TableText.{mostCycles, mostHolds, mostJobs, mostWorth};
 
 // The resources, from 0, which no H line names.
 pub const RESOURCES: usize = 33;
 
 // The place of nobody.
-pub const NOBODY: u64 = 64;
+pub const NOBODY: u64 = MOST_JOBS as u64;
 
 // Step 1, "now + its run time at top speed > termination", multiplied out.
 pub fn late(clock: u64, mhz: u64, cycles: u64, termination: u64) -> bool
@@ -179,9 +180,9 @@ pub fn chain_cycles<'a>(
 
 // Step 4, "Each member that finishes at or before its termination gives its worth, else 0": it finishes after so many
 // cycles.
-fn given(clock: u64, mhz: u64, cycles: u64, termination: u64, worth: u64) -> u64
+fn gives(clock: u64, mhz: u64, cycles: u64, termination: u64, worth: u64) -> u64
     requires { ⌜ Comparable clock mhz cycles termination ⌝ }
-    ensures { λ r. ⌜ (r ≡ cond (endsBy clock mhz cycles termination) worth 0) × (r ≤ worth) ⌝ }
+    ensures { λ r. ⌜ Gives clock mhz cycles termination worth r ⌝ }
 {
     if late(clock, mhz, cycles, termination) {
         return 0;
@@ -197,12 +198,11 @@ pub fn chain_gives<'a>(
     cycles: &'a [u64; MOST_JOBS],
     worth: &'a [u64; MOST_JOBS],
     termination: &'a [u64; MOST_JOBS],
-    clock: u64,
-    mhz: u64,
+    terms: Terms,
     all: u64,
 ) -> u64
-    requires { ⌜ Runnable place (now waits) (now cycles) (now worth) (now termination) clock mhz all ⌝ }
-    ensures { λ r. ⌜ ChainGives place (now (waits .entry)) (now (cycles .entry)) (now (worth .entry)) (now (termination .entry)) clock mhz r ⌝ }
+    requires { ⌜ Runnable place (now waits) (now cycles) (now worth) (now termination) terms all ⌝ }
+    ensures { λ r. ⌜ ChainGives place (now (waits .entry)) (now (cycles .entry)) (now (worth .entry)) (now (termination .entry)) terms r ⌝ }
 {
     let mut sum = 0;
     let mut left = all;
@@ -213,7 +213,7 @@ pub fn chain_gives<'a>(
             return sum;
         }
         let own = cycles[at];
-        sum += given(clock, mhz, left, termination[at], worth[at]);
+        sum += gives(terms.clock, terms.mhz, left, termination[at], worth[at]);
         left -= own;
         at = waits[at] as usize;
         i += 1;

@@ -4,7 +4,7 @@ use mathlib.Core.List.{[]}
 use mathlib.Core.Logic.{_↔_}
 use mathlib.Core.Path.{_≡_, refl, sym, ap}
 use Prim.Native.Nat.{ℕ}
-use Rattle.laws.proofs.Trips.{check-exactly}
+use Rattle.grammar.proofs.Trips.{check-exactly}
 use Rattle.laws.proofs.Unique.{refusal-not-0, refusal-unique}
 use Rattle.rules.specs.Answers.{Answer, verdictSays}
 use Rattle.rules.specs.Refusals.{Taken, check, refusedAt, taken}

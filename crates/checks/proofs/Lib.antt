@@ -1,6 +1,6 @@
 pub mod Places
 mod Parts
-pub mod Letters
+mod Letters
 mod Whole
 pub mod Exactly
 mod Unique

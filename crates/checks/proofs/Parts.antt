@@ -7,11 +7,11 @@ use Prim.Native.Nat.{ℕ, suc, _+_}
 use native.Mathlib.Nat.{add-zero}
 use native.Mathlib.Omega.{arith}
 use lib.ListN.{length}
-use Rattle.laws.proofs.Stopped.{Reached, after, at-once}
+use Rattle.grammar.proofs.Stopped.{Reached, after, at-once}
 use Rattle.records.specs.Standing.{standingOf}
 use Rattle.records.specs.declared.Standing.{Standing}
 use Rattle.rules.specs.Lists.{empty}
-use Rattle.rules.specs.Refusals.{Before, Item, Judged, Taken, accept, accepted, andThen, atEnd, refusedAt, refusedFor, takeFrom}
+use Rattle.rules.specs.Refusals.{Before, Item, Judged, Taken, accept, accepted, andThen, atEnd, refusedAt, refusedFor, takeFrom, takeFromUpTo}
 use Rattle.rules.specs.declared.Refusal.{Refusal}
 use Rattle.checks.specs.Passing.{Passing, andPass, passFrom, passedOf, passedSays, stopped, through}
 use Rattle.checks.specs.Verdict.{checkSays}
@@ -24,7 +24,7 @@ thenTake (stopped why line) more = refusedAt why line
 
 fold-parts : (line : ℕ) (b : Before) (xs ys : List Item)
     → takeFrom line b (xs ++ ys) ≡ thenTake (passFrom line b xs) (λ next. takeFrom (line + length xs) next ys)
-unfolding passFrom takeFrom andThen andPass
+unfolding passFrom takeFromUpTo andThen andPass
 fold-parts line b [] ys = rw (add-zero line)
 fold-parts line b (x ∷ xs) ys =
     go (accept b x) refl (λ next. fold-parts (line + 1) next xs ys)
@@ -53,7 +53,7 @@ module _ (line : ℕ) (b : Before) (xs ys : List Item) where
 pub last-part : (line : ℕ) (b : Before) (xs : List Item)
     → ((next : Before) → passFrom line b xs ≡ through next → empty (next .records .speeds) ≡ false)
     → checkSays (takeFrom line b xs) ≡ passedSays (passedOf (passFrom line b xs))
-unfolding takeFrom atEnd
+unfolding takeFromUpTo atEnd
 last-part line b xs some-speed =
     ap (λ is. checkSays (takeFrom line b is)) (sym (append-nil xs)) ∙ ap checkSays (fold-parts line b xs []) ∙ go (passFrom line b xs) refl
   where

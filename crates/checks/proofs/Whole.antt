@@ -9,20 +9,20 @@ use native.Mathlib.Omega.{arith}
 use borrow.Author.Tests.{eqb-false, le-ltb, ne-eqb}
 use lib.Dec.{eqb}
 use lib.ListN.{length, take, length-map, length-take}
-use Rattle.laws.proofs.Accepted.{Standing, clock-read, nothing-read, reached-standing, valid}
+use Rattle.grammar.proofs.Accepted.{Reachable, clock-read, nothing-read, reached-standing, valid}
 use Rattle.laws.proofs.Elements.{not-empty}
-use Rattle.laws.proofs.Stopped.{Reached, accepted-exactly}
+use Rattle.grammar.proofs.Stopped.{Reached, accepted-exactly}
 use Rattle.rules.specs.Lists.{Rising, empty, no-element}
-use Rattle.rules.specs.Refusals.{Before, Item, accept, accepted, added, andThen, bad, beyond, check, faultOf, holdItems, itemsOf, jobItems, judged, nothing, one, refusedAt, speedItems, takeFrom}
-use Rattle.rules.specs.TableText.{Record, mostJobs, mostSpeeds, noRecords, recordsOf}
+use Rattle.rules.specs.Refusals.{Before, Item, accept, acceptUpTo, accepted, added, andThen, bad, beyond, check, checkUpTo, faultOf, holdItems, itemsOfUpTo, jobItems, jobItemsUpTo, judged, nothing, one, refusedAt, speedItems, takeFrom, takeFromUpTo}
+use Rattle.rules.specs.TableText.{Record, mostJobs, mostSpeeds, recordsOf}
 use Rattle.rules.specs.declared.Job.{Job}
 use Rattle.rules.specs.declared.Refusal.{Refusal}
 use Rattle.rules.specs.declared.Table.{Table}
 use Rattle.records.specs.Standing.{standingOf}
-use Rattle.records.specs.declared.Standing.{Standing as State}
+use Rattle.records.specs.declared.Standing.{Standing}
 use Rattle.checks.specs.Passing.{JobsStand, andPass, clockStands, holdsPassed, jobsPassed, jobsStand, passFrom, passedOf, passedSays, speedsPassed, speedsStand, stopped, through}
 use Rattle.checks.specs.Verdict.{checkSays}
-use Rattle.checks.proofs.Letters.{all-through, holdPart, items, jobPart, speedPart}
+use Rattle.checks.proofs.Letters.{all-through, holdPart, letterItems, jobPart, speedPart}
 use Rattle.checks.proofs.Parts.{last-part, passed-reached, stopped-part, through-part}
 
 none-beyond : (front : List Item) (places count : ℕ) (why : Refusal) → count ≤ places
@@ -31,13 +31,13 @@ unfolding beyond
 none-beyond front places count why h = rw (le-ltb places count h) (rw (append-nil front) refl)
 
 -- in what can be reached the numbers of the jobs rise
-standing-rising : {b : Before} {rs : List Record} → Standing b rs → Rising (λ (j : Job). j .number) (b .records .jobs)
-unfolding nothing noRecords added
+standing-rising : {b : Before} {rs : List Record} → Reachable b rs → Rising (λ (j : Job). j .number) (b .records .jobs)
+unfolding nothing added
 standing-rising nothing-read = no-element
 standing-rising (clock-read c) = no-element
 standing-rising (valid v) = v .jobs-rise
 
-rising-behind : {a b c : Before} {rs : List Record} {xs ys : List Item} → Standing a rs → Reached a xs b → Reached b ys c
+rising-behind : {a b c : Before} {rs : List Record} {xs ys : List Item} → Reachable a rs → Reached a xs b → Reached b ys c
     → Rising (λ (j : Job). j .number) (c .records .jobs)
 rising-behind stand first second =
     let (fs, lines, more) = reached-standing stand first in
@@ -46,21 +46,21 @@ rising-behind stand first second =
 
 module _ (t : Table) where
   pub clock-refused : (why : Refusal) → faultOf nothing (Record.T (t .clock) (t .budget)) ≡ some why → check t ≡ refusedAt why 1
-  unfolding check itemsOf takeFrom andThen accept judged recordsOf
+  unfolding checkUpTo itemsOfUpTo takeFromUpTo andThen acceptUpTo judged recordsOf
   clock-refused why e = rw e
 
   -- the T is accepted
   module _ (clock : faultOf nothing (Record.T (t .clock) (t .budget)) ≡ none) where
     clock-accepted : accept nothing (one (Record.T (t .clock) (t .budget))) ≡ accepted (clockStands t)
-    unfolding accept judged added nothing noRecords recordsOf
+    unfolding acceptUpTo judged added nothing recordsOf
     clock-accepted = rw clock
 
     behind-clock : check t ≡ takeFrom 2 (clockStands t) (speedItems t ++ (jobItems t ++ holdItems t))
-    unfolding check itemsOf takeFrom andThen recordsOf
+    unfolding checkUpTo itemsOfUpTo takeFromUpTo andThen recordsOf
     behind-clock = rw clock-accepted
 
-    clock-standing : Standing (clockStands t) (Record.T (t .clock) (t .budget) ∷ [])
-    unfolding added nothing noRecords recordsOf
+    clock-standing : Reachable (clockStands t) (Record.T (t .clock) (t .budget) ∷ [])
+    unfolding added nothing recordsOf
     clock-standing = clock-read (accepted-exactly nothing (Record.T (t .clock) (t .budget)) (clockStands t) .0 clock-accepted .0 .in-range)
 
     pub speeds-refused : (why : Refusal) (line : ℕ) → speedsPassed t ≡ stopped why line → check t ≡ refusedAt why line
@@ -70,12 +70,12 @@ module _ (t : Table) where
     -- the F are accepted
     module _ (b : Before) (speeds : speedsPassed t ≡ through b) where
       all-speeds : (1 ≤ t .«speed_count») × (t .«speed_count» ≤ mostSpeeds) × (b ≡ speedsStand t)
-      unfolding speedsPassed speedItems recordsOf passFrom andPass accept
+      unfolding speedsPassed speedItems recordsOf passFrom andPass acceptUpTo
       all-speeds = go (eqb (t .«speed_count») 0) refl speeds
         where
           go : (z : Bool) → eqb (t .«speed_count») 0 ≡ z
               → passFrom 2 (clockStands t)
-              (cond z (bad Refusal.Order ∷ []) (items Record.F (take (t .«speed_count») (t .speeds)) mostSpeeds (t .«speed_count») Refusal.TooMany))
+              (cond z (bad Refusal.Order ∷ []) (letterItems Record.F (take (t .«speed_count») (t .speeds)) mostSpeeds (t .«speed_count») Refusal.TooMany))
               ≡ through b
               → (1 ≤ t .«speed_count») × (t .«speed_count» ≤ mostSpeeds) × (b ≡ speedsStand t)
           go true z q = let n : _≡_ {A = ℕ} 0 1 = cc in absurd (omega arith)
@@ -113,12 +113,12 @@ module _ (t : Table) where
       -- the J are accepted
       module _ (d : Before) (jobs : jobsPassed t ≡ through d) where
         all-jobs : (t .«job_count» ≤ mostJobs) × (d ≡ jobsStand t)
-        unfolding jobsPassed jobItems recordsOf
+        unfolding jobsPassed jobItemsUpTo recordsOf
         all-jobs =
             all-through (jobPart t) (2 + length (recordsOf t .speeds)) [] (take (t .«job_count») (t .jobs)) d jobs
 
         job-lines : length (jobItems t) ≡ length (recordsOf t .jobs)
-        unfolding jobItems
+        unfolding jobItemsUpTo
         job-lines =
             none-beyond (map (λ j. one (Record.J j)) (recordsOf t .jobs)) mostJobs (t .«job_count») Refusal.TooMany (all-jobs .0)
             ∙ length-map (recordsOf t .jobs) (λ j. one (Record.J j))
@@ -137,7 +137,7 @@ module _ (t : Table) where
             rw (all-speeds .2) at (passed-reached 2 (clockStands t) (speedItems t) b speeds) in
             rising-behind clock-standing first (passed-reached (2 + length (recordsOf t .speeds)) (speedsStand t) (jobItems t) d jobs)
 
-        pub jobs-standing : (s : State) → s ≡ standingOf d → JobsStand t s
+        pub jobs-standing : (s : Standing) → s ≡ standingOf d → JobsStand t s
         jobs-standing s e = record {
           state = e ∙ rw (all-jobs .1);
           few = all-jobs .0;

@@ -1,14 +1,14 @@
 -- What the lines of one letter of a table come to: the rules' fold over a part of the items.
-use mathlib.Core.Bool.{true}
 use mathlib.Core.List.{List, [], _∷_}
 use mathlib.Core.Path.{_≡_}
 use Prim.Native.Nat.{ℕ, _+_, _≤_}
 use lib.ListN.{length}
+use Rattle.grammar.specs.SoFar.{holdsSoFar, jobsSoFar, speedsSoFar}
 use Rattle.records.specs.Standing.{standingOf}
 use Rattle.records.specs.declared.Standing.{Standing}
 use Rattle.rules.specs.Answers.{Answer, good, refused}
 use Rattle.rules.specs.Lists.{Rising}
-use Rattle.rules.specs.Refusals.{Before, Item, Judged, accept, accepted, holdItems, jobItems, refusedFor, speedItems}
+use Rattle.rules.specs.Refusals.{Before, Item, Judged, accept, accepted, begunWith, holdItems, jobItems, refusedFor, speedItems}
 use Rattle.rules.specs.TableText.{Records, mostJobs, recordsOf}
 use Rattle.rules.specs.declared.Hold.{Hold}
 use Rattle.rules.specs.declared.Job.{Job}
@@ -40,23 +40,23 @@ abbrev pub lineAfter : Standing → ℕ
 lineAfter s = 2 + s .speeds + s .jobs + s .holds
 
 -- a table's records before its F, before its J, before its H, and so many of these
-abbrev pub withSpeeds : Records → List Speed → Before
-withSpeeds r fs = record { begun = true; records = record { clock = r .clock; budget = r .budget; speeds = fs; jobs = []; holds = [] } }
+abbrev pub speedsBefore : Records → List Speed → Before
+speedsBefore r fs = begunWith (speedsSoFar r fs)
 
-abbrev pub withJobs : Records → List Job → Before
-withJobs r js = record { begun = true; records = record { clock = r .clock; budget = r .budget; speeds = r .speeds; jobs = js; holds = [] } }
+abbrev pub jobsBefore : Records → List Job → Before
+jobsBefore r js = begunWith (jobsSoFar r js)
 
-abbrev pub withHolds : Records → List Hold → Before
-withHolds r hs = record { begun = true; records = record { clock = r .clock; budget = r .budget; speeds = r .speeds; jobs = r .jobs; holds = hs } }
+abbrev pub holdsBefore : Records → List Hold → Before
+holdsBefore r hs = begunWith (holdsSoFar r hs)
 
 abbrev pub clockStands : Table → Before
-clockStands t = withSpeeds (recordsOf t) []
+clockStands t = speedsBefore (recordsOf t) []
 
 abbrev pub speedsStand : Table → Before
-speedsStand t = withJobs (recordsOf t) []
+speedsStand t = jobsBefore (recordsOf t) []
 
 abbrev pub jobsStand : Table → Before
-jobsStand t = withHolds (recordsOf t) []
+jobsStand t = holdsBefore (recordsOf t) []
 
 -- what the F, the J, the H of a table come to, behind those before them
 unfoldable pub speedsPassed : Table → Passing

@@ -6,10 +6,11 @@ use Prim.Native.Nat.{ℕ, zero, suc, _≤_}
 use native.Mathlib.Omega.{arith}
 use lib.ListN.{getD}
 use Rattle.columns.specs.Columns.{AtMost, Column, ColumnsOf}
+use Rattle.columns.specs.Ranges.{ColumnsInRange}
 use Rattle.columns.specs.declared.Columns.{Columns}
-use Rattle.laws.proofs.Ranges.{JobRanges, job-ranges}
+use Rattle.grammar.proofs.Ranges.{JobRanges, job-ranges}
 use Rattle.rules.specs.Lists.{Each, _and_}
-use Rattle.rules.specs.TableText.{Record, inRange, mostCycles, noJob}
+use Rattle.rules.specs.TableText.{Record, inRange, noJob}
 use Rattle.rules.specs.declared.Job.{Job}
 
 -- a column is at most what the field of each job is
@@ -26,14 +27,6 @@ module _ (f : Job → ℕ) (b : ℕ) (none-at-most : f noJob ≤ b) (each-at-mos
   column-in-range : (js : List Job) (c : List ℕ) → Each (λ j. inRange (Record.J j) ≡ true) js → Column f js c
       → AtMost b c
   column-in-range js c e column = column-at-most f js c b column (field-at-most js e)
-
-pub record ColumnsInRange (c : Columns) : Type 0 where
-  pub number : AtMost 9999 (c .number)
-  pub cycles : AtMost mostCycles (c .cycles)
-  pub worth : AtMost 1000000 (c .worth)
-  pub critical : AtMost 1000000000 (c .critical)
-  pub termination : AtMost 1000000000 (c .termination)
-  pub request : AtMost 32 (c .request)
 
 pub columns-in-range : (js : List Job) (c : Columns) → Each (λ j. inRange (Record.J j) ≡ true) js → ColumnsOf js c
     → ColumnsInRange c

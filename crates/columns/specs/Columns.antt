@@ -23,6 +23,11 @@ pub record ColumnsOf (js : List Job) (c : Columns) : Type 0 where
   pub termination : Column (λ j. j .termination) js (c .termination)
   pub request : Column (λ j. j .request) js (c .request)
 
+-- the columns by which it is told whether jobs end in time are those of the jobs
+pub record RunsOf (js : List Job) (cycles termination : List ℕ) : Type 0 where
+  pub cycles-of : Column (λ j. j .cycles) js cycles
+  pub termination-of : Column (λ j. j .termination) js termination
+
 -- the T line, "the top speed", and how many jobs there are
 pub record TermsOf (t : Records) (terms : Terms) : Type 0 where
   pub clock : terms .clock ≡ t .clock

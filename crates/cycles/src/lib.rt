@@ -1,5 +1,6 @@
 // The cycles to allocate to a job, from the mean and the variance of its cycles and the assurance that they are enough.
 use rules::Allocated;
+use rules::MOST_CYCLES;
 use rules::Refusal;
 ghost use mathlib.Core.Bool.{true};
 ghost use mathlib.Core.List.{[], _∷_};
@@ -8,9 +9,6 @@ ghost use Prim.Native.Nat.{_≤_};
 ghost use Rattle.rules.specs.Answers.{allocatedSays, good};
 ghost use Rattle.rules.specs.Cycles.{allocation, askedInRange, enough};
 ghost use Rattle.rules.specs.TableText.{mostCycles};
-
-// The most cycles, as a mean and as an allocation.
-const MOST_CYCLES: u64 = 1000000;
 
 const MOST_VARIANCE: u64 = 1000000000000;
 

@@ -43,7 +43,7 @@ use Rattle.front.specs.declared.Kind.{Kind}
 use Rattle.front.specs.declared.Reader.{Reader}
 use Rattle.handing.proofs.Unique.{hand-back-unique}
 use Rattle.handing.specs.Promises.{HandedBack}
-use Rattle.laws.specs.Demand3.{NonePlanned, outOf}
+use Rattle.theorems.specs.Demand3.{NonePlanned, outOf}
 use Rattle.listing.proofs.Unique as listing
 use Rattle.planner.proofs.Together.{plan-into-then-hand-back, refused-hands-back-nothing}
 use Rattle.planner.proofs.Unique as planner
@@ -67,10 +67,10 @@ use Rattle.rules.specs.declared.Supplied.{Supplied}
 use Rattle.rules.specs.declared.Table.{Table}
 use Rattle.rules.specs.declared.Verdict.{Verdict}
 use Rattle.rules.specs.declared.Written.{Written}
-use Rattle.text.specs.FieldPlaces.{fieldAnswer, fieldAt, fieldsAt, letterOf, placeAt, placeBehind}
+use Rattle.text.specs.FieldPlaces.{fieldAnswer, fieldAt, fieldsAt, lineLetter, placeAt, placeBehind}
 use Rattle.text.specs.Fields.{FieldsTold, mostLine, takenSays}
 use Rattle.text.specs.declared.Cursor.{Cursor}
-use Rattle.text.specs.declared.Taken.{Taken}
+use Rattle.text.specs.declared.FieldTaken.{FieldTaken}
 use Rattle.writer.proofs.Unique as writer
 
 -- DEMAND 1. "A refusal gives its number and line, hands back an empty plan, and every lent buffer still holds what it held."
@@ -80,13 +80,13 @@ use Rattle.writer.proofs.Unique as writer
 
 pub refused-by-plan-into : (l : Lfts 3) (text order fates order′ fates′ : RefT (List ℕ)) (d : Decision)
     → planner.Promised l text order fates d order′ fates′
-    → Refuses (PlanRefused (text .now) (order .now) (fates .now)) (decisionSays d) (0 ∷ 0 ∷ 0 ∷ [])
+    → Refuses (PlanRefused (read (text .now)) (order .now) (fates .now)) (decisionSays d) (0 ∷ 0 ∷ 0 ∷ [])
     ((order′ .now ≡ order .now) × (fates′ .now ≡ fates .now))
 refused-by-plan-into = plan-into-refuses
 
 pub refused-by-plan : (text order fates : List ℕ) (begin : ℕ × ℕ) (r : Planned) (fates′ : List ℕ)
-    → PlannedAs text order fates begin r fates′
-    → Refuses (PlanRefused text order fates) (decisionSays (r .decision)) (0 ∷ 0 ∷ 0 ∷ [])
+    → PlannedAs (read text) order fates begin r fates′
+    → Refuses (PlanRefused (read text) order fates) (decisionSays (r .decision)) (0 ∷ 0 ∷ 0 ∷ [])
     ((now (r .plan) ≡ []) × (fates′ ≡ fates))
 refused-by-plan = plan-refuses
 
@@ -124,7 +124,7 @@ pub refused-by-moved : (reader : Reader) (kind : Kind) (r : Field) → Next read
     → Moved reader kind s → s ≡ reader
 refused-by-moved = moved-refused
 
-pub refused-by-take : (text : List ℕ) (at : Cursor) (kind : Kind) (r : Taken) → Took text at kind r
+pub refused-by-take : (text : List ℕ) (at : Cursor) (kind : Kind) (r : FieldTaken) → Took text at kind r
     → IsRefusal (fieldSays (r .field)) → takenSays r ≡ record { says = refused Refusal.Shape (at .line) []; next = at }
 refused-by-take = take-refused
 
@@ -139,28 +139,28 @@ refused-by-supplied = supplied-refuses
 -- the six calls for C and Rust
 
 pub refused-by-cuddlelamb-plan : (text order fates order′ fates′ : List ℕ) (r : PlanAnswer)
-    → boundary.PlannedAs text order fates r order′ fates′
-    → Refuses (PlanRefused text order fates) (boundary.planSays r) (0 ∷ 0 ∷ 0 ∷ []) ((order′ ≡ order) × (fates′ ≡ fates))
+    → boundary.PlanTold (read text) order fates r order′ fates′
+    → Refuses (PlanRefused (read text) order fates) (boundary.planSays r) (0 ∷ 0 ∷ 0 ∷ []) ((order′ ≡ order) × (fates′ ≡ fates))
 refused-by-cuddlelamb-plan = cuddlelamb-plan-refuses
 
-pub refused-by-cuddlelamb-list : (text out after : List ℕ) (r : TextAnswer) → boundary.ListedAs text out r after
+pub refused-by-cuddlelamb-list : (text out after : List ℕ) (r : TextAnswer) → boundary.ListTold text out r after
     → Refuses (ListRefused text out) (boundary.textSays r) (0 ∷ []) (after ≡ out)
 refused-by-cuddlelamb-list = cuddlelamb-list-refuses
 
-pub refused-by-cuddlelamb-write : (t : Table) (out after : List ℕ) (r : TextAnswer) → boundary.WrittenAs t out r after
+pub refused-by-cuddlelamb-write : (t : Table) (out after : List ℕ) (r : TextAnswer) → boundary.WriteTold t out r after
     → Refuses (WriteRefused t out) (boundary.textSays r) (0 ∷ []) (after ≡ out)
 refused-by-cuddlelamb-write = cuddlelamb-write-refuses
 
-pub refused-by-cuddlelamb-read : (text : List ℕ) (r : TableAnswer) → boundary.ReadAs text r
+pub refused-by-cuddlelamb-read : (text : List ℕ) (r : TableAnswer) → boundary.ReadTold text r
     → Refuses (ReadRefused text) (boundary.tableSays r) [] (r .table ≡ tableOf noRecords)
 refused-by-cuddlelamb-read = cuddlelamb-read-refuses
 
 pub refused-by-cuddlelamb-allocate : (mean variance assurance : ℕ) (r : CyclesAnswer)
-    → boundary.AllocatedAs mean variance assurance r
+    → boundary.AllocateTold mean variance assurance r
     → Refuses (AllocationRefused mean variance assurance) (boundary.cyclesSays r) (0 ∷ []) NothingLent
 refused-by-cuddlelamb-allocate = cuddlelamb-allocate-refuses
 
-pub refused-by-cuddlelamb-costs : (model : ℕ) (r : CostsAnswer) → boundary.CostsAs model r
+pub refused-by-cuddlelamb-costs : (model : ℕ) (r : CostsAnswer) → boundary.CostsTold model r
     → Refuses (CostsRefused model) (boundary.costsSays r) (0 ∷ 0 ∷ 0 ∷ 0 ∷ 0 ∷ 0 ∷ 0 ∷ []) NothingLent
 refused-by-cuddlelamb-costs = cuddlelamb-costs-refuses
 
@@ -172,14 +172,14 @@ pub plan-into-by-the-rules : (l : Lfts 3) (text order fates order′ fates′ : 
 plan-into-by-the-rules = plan-into-gives
 
 pub plan-by-the-rules : (text order fates : List ℕ) (begin : ℕ × ℕ) (r : Planned) (fates′ : List ℕ) (t : Records)
-    → PlannedAs text order fates begin r fates′ → read text ≡ taken t → HasRoom order fates
+    → PlannedAs (read text) order fates begin r fates′ → read text ≡ taken t → HasRoom order fates
     → PartBy t fates (decisionSays (r .decision)) (now (r .plan)) fates′
 plan-by-the-rules = plan-gives
 
 -- `plan_into` and then `hand_back` of the buffer that it left: the part, and behind it every place as `plan_into` left it
 pub every-place-by-the-rules : (l : Lfts 3) (text order fates order′ fates′ : RefT (List ℕ)) (d : Decision) (begin at : ℕ × ℕ)
     (part : List ℕ) → planner.Promised l text order fates d order′ fates′ → HandedBack (order′ .now) begin d part at
-    → Together (text .now) (order .now) (fates .now) begin (order′ .now) part at
+    → Together (read (text .now)) (order .now) (fates .now) begin (order′ .now) part at
 every-place-by-the-rules = plan-into-then-hand-back
 
 pub list-by-the-rules : (l : Lfts 2) (text out after : RefT (List ℕ)) (w : Written) → listing.Promised l text out w after
@@ -215,7 +215,7 @@ another-kind-refused-by-next = next-refuses-another-kind
 
 pub letter-by-the-rules : {text : RefT (List ℕ)} {reader : Reader} (l : ℕ) → 1 ≤ l → l < length (linesOf (now text))
     → Started text (placeAt (now text) l 0) reader → {r : Field} → Next reader Kind.Letter r
-    → fieldSays r ≡ fieldAnswer l (letterOf (now text) l)
+    → fieldSays r ≡ fieldAnswer l (lineLetter (now text) l)
 letter-by-the-rules = next-answers-the-letter
 
 pub no-line-feed-refused-by-next : {text : RefT (List ℕ)} {reader : Reader} (l : ℕ) → 1 ≤ l → l ≡ length (linesOf (now text))
@@ -232,16 +232,16 @@ moved-by-the-rules = moved-to-the-next-field
 
 pub moved-by-a-letter : {text : RefT (List ℕ)} {reader : Reader} (l : ℕ) → 1 ≤ l → l < length (linesOf (now text))
     → Started text (placeAt (now text) l 0) reader → {r : Reader} (b : ℕ) → Moved reader Kind.Letter r
-    → letterOf (now text) l ≡ some b → Started text (placeAt (now text) l 1) r
+    → lineLetter (now text) l ≡ some b → Started text (placeAt (now text) l 1) r
 moved-by-a-letter = moved-behind-the-letter
 
 pub take-by-the-rules : (text : List ℕ) (l : ℕ) → 1 ≤ l → l < length (linesOf text) → (k : ℕ) → k < length (fieldsAt text l)
-    → {r : Taken} → Took text (placeAt text l k) (kindAt text l k) r
+    → {r : FieldTaken} → Took text (placeAt text l k) (kindAt text l k) r
     → fieldSays (r .field) ≡ fieldAnswer l (numberIn (fieldAt text l k))
 take-by-the-rules = take-answers-the-field
 
-pub letter-taken-by-the-rules : (text : List ℕ) (l : ℕ) → 1 ≤ l → l < length (linesOf text) → {r : Taken}
-    → Took text (placeAt text l 0) Kind.Letter r → fieldSays (r .field) ≡ fieldAnswer l (letterOf text l)
+pub letter-taken-by-the-rules : (text : List ℕ) (l : ℕ) → 1 ≤ l → l < length (linesOf text) → {r : FieldTaken}
+    → Took text (placeAt text l 0) Kind.Letter r → fieldSays (r .field) ≡ fieldAnswer l (lineLetter text l)
 letter-taken-by-the-rules = take-answers-the-letter
 
 -- walked from the start, field by field, the reader's line is one more than the line feeds before it; every text that a machine
@@ -252,7 +252,7 @@ pub lines-by-the-rules : {text : RefT (List ℕ)} {reader : Reader} {kinds : Lis
 lines-by-the-rules = walked-lines-counted
 
 pub lines-taken-by-the-rules : (text : List ℕ) → length text ≤ mostLine → (at : Cursor) → LineCounted text at → (kind : Kind)
-    {r : Taken} → Took text at kind r → LineCounted text (r .next)
+    {r : FieldTaken} → Took text at kind r → LineCounted text (r .next)
 lines-taken-by-the-rules = take-counted
 
 pub allocate-by-the-rules : (mean variance assurance : ℕ) (r : Allocated) → cycles.Promised mean variance assurance r
@@ -265,28 +265,28 @@ supplied-by-the-rules model r promise = promise
 -- the six calls for C and Rust
 
 pub cuddlelamb-plan-by-the-rules : (text order fates order′ fates′ : List ℕ) (r : PlanAnswer) (t : Records)
-    → boundary.PlannedAs text order fates r order′ fates′ → read text ≡ taken t → HasRoom order fates
+    → boundary.PlanTold (read text) order fates r order′ fates′ → read text ≡ taken t → HasRoom order fates
     → PlannedBy t order fates (boundary.planSays r) order′ fates′
 cuddlelamb-plan-by-the-rules = cuddlelamb-plan-gives
 
-pub cuddlelamb-list-by-the-rules : (text out after : List ℕ) (r : TextAnswer) → boundary.ListedAs text out r after
+pub cuddlelamb-list-by-the-rules : (text out after : List ℕ) (r : TextAnswer) → boundary.ListTold text out r after
     → length (listingOf text) ≤ length out → AtFront (listingOf text) out (boundary.textSays r) after
 cuddlelamb-list-by-the-rules = cuddlelamb-list-gives
 
 pub valid-table-is-written-by-cuddlelamb-write : (t : Table) (out after : List ℕ) (r : TextAnswer)
-    → boundary.WrittenAs t out r after → WithinPlaces t → Valid (recordsOf t) → length (textOf (recordsOf t)) ≤ length out
+    → boundary.WriteTold t out r after → WithinPlaces t → Valid (recordsOf t) → length (textOf (recordsOf t)) ≤ length out
     → AtFront (textOf (recordsOf t)) out (boundary.textSays r) after
 valid-table-is-written-by-cuddlelamb-write = cuddlelamb-write-gives
 
-pub cuddlelamb-read-by-the-rules : (text : List ℕ) (r : TableAnswer) (t : Records) → boundary.ReadAs text r → read text ≡ taken t
+pub cuddlelamb-read-by-the-rules : (text : List ℕ) (r : TableAnswer) (t : Records) → boundary.ReadTold text r → read text ≡ taken t
     → (boundary.tableSays r ≡ good []) × (r .table ≡ tableOf t)
 cuddlelamb-read-by-the-rules = cuddlelamb-read-gives
 
 pub cuddlelamb-allocate-by-the-rules : (mean variance assurance : ℕ) (r : CyclesAnswer)
-    → boundary.AllocatedAs mean variance assurance r → boundary.cyclesSays r ≡ allocation mean variance assurance
+    → boundary.AllocateTold mean variance assurance r → boundary.cyclesSays r ≡ allocation mean variance assurance
 cuddlelamb-allocate-by-the-rules mean variance assurance r promise = promise .answer
 
-pub cuddlelamb-costs-by-the-rules : (model : ℕ) (r : CostsAnswer) → boundary.CostsAs model r
+pub cuddlelamb-costs-by-the-rules : (model : ℕ) (r : CostsAnswer) → boundary.CostsTold model r
     → boundary.costsSays r ≡ suppliedCosts model
 cuddlelamb-costs-by-the-rules model r promise = promise .answer
 
@@ -319,7 +319,7 @@ pub one-answer-of-plan-into : (l : Lfts 3) (text order fates a b a′ b′ : Ref
 one-answer-of-plan-into = planner.unique-into
 
 pub one-answer-of-plan : (text order fates : List ℕ) (begin : ℕ × ℕ) (r s : Planned) (b b′ : List ℕ)
-    → PlannedAs text order fates begin r b → PlannedAs text order fates begin s b′
+    → PlannedAs (read text) order fates begin r b → PlannedAs (read text) order fates begin s b′
     → (now (r .plan) ≡ now (s .plan)) × (ptr (r .plan) ≡ ptr (s .plan)) × (r .decision ≡ s .decision) × (b ≡ b′)
 one-answer-of-plan = planner.unique-plan
 
@@ -350,7 +350,7 @@ one-answer-of-moved = front.moved-unique
 pub one-answer-of-place : (reader : Reader) (r s : Cursor) → Placed reader r → Placed reader s → r ≡ s
 one-answer-of-place = front.place-unique
 
-pub one-answer-of-take : (text : List ℕ) (at : Cursor) (kind : Kind) (r s : Taken) → Took text at kind r
+pub one-answer-of-take : (text : List ℕ) (at : Cursor) (kind : Kind) (r s : FieldTaken) → Took text at kind r
     → Took text at kind s → r ≡ s
 one-answer-of-take = front.take-unique
 
@@ -361,25 +361,25 @@ one-answer-of-clock-and-budget = front.clock-and-budget-unique
 -- the six calls for C and Rust
 
 pub one-answer-of-cuddlelamb-plan : (text order fates : List ℕ) (r s : PlanAnswer) (a b a′ b′ : List ℕ)
-    → boundary.PlannedAs text order fates r a b → boundary.PlannedAs text order fates s a′ b′ → (r ≡ s) × (a ≡ a′) × (b ≡ b′)
+    → boundary.PlanTold (read text) order fates r a b → boundary.PlanTold (read text) order fates s a′ b′ → (r ≡ s) × (a ≡ a′) × (b ≡ b′)
 one-answer-of-cuddlelamb-plan = plan-unique
 
-pub one-answer-of-cuddlelamb-list : (text out : List ℕ) (r s : TextAnswer) (a b : List ℕ) → boundary.ListedAs text out r a
-    → boundary.ListedAs text out s b → (r ≡ s) × (a ≡ b)
+pub one-answer-of-cuddlelamb-list : (text out : List ℕ) (r s : TextAnswer) (a b : List ℕ) → boundary.ListTold text out r a
+    → boundary.ListTold text out s b → (r ≡ s) × (a ≡ b)
 one-answer-of-cuddlelamb-list = list-unique
 
-pub one-answer-of-cuddlelamb-write : (t : Table) (out : List ℕ) (r s : TextAnswer) (a b : List ℕ) → boundary.WrittenAs t out r a
-    → boundary.WrittenAs t out s b → (r ≡ s) × (a ≡ b)
+pub one-answer-of-cuddlelamb-write : (t : Table) (out : List ℕ) (r s : TextAnswer) (a b : List ℕ) → boundary.WriteTold t out r a
+    → boundary.WriteTold t out s b → (r ≡ s) × (a ≡ b)
 one-answer-of-cuddlelamb-write = write-unique
 
-pub one-answer-of-cuddlelamb-read : (text : List ℕ) (r s : TableAnswer) → boundary.ReadAs text r → boundary.ReadAs text s → r ≡ s
+pub one-answer-of-cuddlelamb-read : (text : List ℕ) (r s : TableAnswer) → boundary.ReadTold text r → boundary.ReadTold text s → r ≡ s
 one-answer-of-cuddlelamb-read = read-unique
 
 pub one-answer-of-cuddlelamb-allocate : (mean variance assurance : ℕ) (r s : CyclesAnswer)
-    → boundary.AllocatedAs mean variance assurance r → boundary.AllocatedAs mean variance assurance s → r ≡ s
+    → boundary.AllocateTold mean variance assurance r → boundary.AllocateTold mean variance assurance s → r ≡ s
 one-answer-of-cuddlelamb-allocate = allocate-unique
 
-pub one-answer-of-cuddlelamb-costs : (model : ℕ) (r s : CostsAnswer) → boundary.CostsAs model r → boundary.CostsAs model s → r ≡ s
+pub one-answer-of-cuddlelamb-costs : (model : ℕ) (r s : CostsAnswer) → boundary.CostsTold model r → boundary.CostsTold model s → r ≡ s
 one-answer-of-cuddlelamb-costs = costs-unique
 
 -- DEMAND 3. "Jobs that are not planned don't matter." Two texts are read as tables that agree in every job outside a set of
@@ -397,7 +397,7 @@ unplanned-jobs-do-not-matter = unplanned-do-not-matter-to-plan-into
 
 pub unplanned-jobs-do-not-matter-to-plan : (set : ℕ → Bool) (text text* order order* fates fates* : List ℕ) (begin begin* : ℕ × ℕ)
     (r s : Planned) (fates′ fates*′ : List ℕ) (a b : Records)
-    → PlannedAs text order fates begin r fates′ → PlannedAs text* order* fates* begin* s fates*′
+    → PlannedAs (read text) order fates begin r fates′ → PlannedAs (read text*) order* fates* begin* s fates*′
     → TextsAgree set text text* a b → HasRoom order fates → HasRoom order* fates*
     → NoneInFront set (now (r .plan)) → NoneInFront set (now (s .plan))
     → SamePart (outOf set) a b (decisionSays (r .decision)) (decisionSays (s .decision))
@@ -406,7 +406,7 @@ unplanned-jobs-do-not-matter-to-plan = unplanned-do-not-matter-to-plan
 
 pub unplanned-jobs-do-not-matter-to-cuddlelamb-plan : (set : ℕ → Bool)
     (text text* order order* fates fates* order′ order*′ fates′ fates*′ : List ℕ) (r s : PlanAnswer) (a b : Records)
-    → boundary.PlannedAs text order fates r order′ fates′ → boundary.PlannedAs text* order* fates* s order*′ fates*′
+    → boundary.PlanTold (read text) order fates r order′ fates′ → boundary.PlanTold (read text*) order* fates* s order*′ fates*′
     → TextsAgree set text text* a b → HasRoom order fates → HasRoom order* fates*
     → NoneInFront set (frontOf (boundary.planSays r) order′) → NoneInFront set (frontOf (boundary.planSays s) order*′)
     → SameOutside (outOf set) a b (boundary.planSays r) (boundary.planSays s) order′ order*′ fates′ fates*′
@@ -423,7 +423,7 @@ pub unplanned-jobs-do-not-matter-to-list : (set : ℕ → Bool) (l l* : Lfts 2) 
 unplanned-jobs-do-not-matter-to-list = unplanned-do-not-matter-to-list
 
 pub unplanned-jobs-do-not-matter-to-cuddlelamb-list : (set : ℕ → Bool) (text text* out out* after after* : List ℕ)
-    (r s : TextAnswer) (a b : Records) → boundary.ListedAs text out r after → boundary.ListedAs text* out* s after*
+    (r s : TextAnswer) (a b : Records) → boundary.ListTold text out r after → boundary.ListTold text* out* s after*
     → TextsAgree set text text* a b → NonePlanned set a → NonePlanned set b
     → length (listingOf text) ≤ length out → length (listingOf text*) ≤ length out*
     → SameListing (outOf set) a b (frontOf (boundary.textSays r) after) (frontOf (boundary.textSays s) after*)

@@ -10,13 +10,13 @@ use lib.ListN.{length, length-map, take}
 use lib.Seq.{take-at}
 use Rattle.boundary.specs.Told as boundary
 use Rattle.boundary.specs.declared.PlanAnswer.{PlanAnswer}
-use Rattle.boundary.specs.declared.TableAnswer.{TableAnswer as TableTold}
+use Rattle.boundary.specs.declared.TableAnswer.{TableAnswer}
 use Rattle.boundary.specs.declared.TextAnswer.{TextAnswer}
 use Rattle.demands.specs.Plans.{AtFront, HasRoom, PartBy, PlannedBy}
 use Rattle.front.proofs.Unique as front
 use Rattle.front.proofs.WholeText.{answer-of-table}
 use Rattle.front.specs.declared.ClockLine.{ClockLine}
-use Rattle.laws.proofs.Trips.{check-exactly}
+use Rattle.grammar.proofs.Trips.{check-exactly}
 use Rattle.laws.proofs.Unique.{reading-unique}
 use Rattle.listing.proofs.Unique as listing
 use Rattle.planner.proofs.Decisions.{room}
@@ -26,8 +26,8 @@ use Rattle.planner.specs.declared.Planned.{Planned}
 use Rattle.reader.proofs.Unique as reader
 use Rattle.rules.specs.Answers.{Answer, decisionSays, good, writtenSays}
 use Rattle.rules.specs.Listing.{listing, listingOf}
-use Rattle.rules.specs.Plan.{AfterPlanning, leavesOf, leavesPlan, numbersOf, partOf, planOf, planning}
-use Rattle.rules.specs.Refusals.{AfterWriting, read, reading, tableAnswer, taken, writing, written, writtenOf}
+use Rattle.rules.specs.Plan.{AfterPlanning, leavesOf, leavesPlan, numbersOf, partOf, planOf, planningOfUpTo, planningOf}
+use Rattle.rules.specs.Refusals.{AfterWriting, read, readingUpTo, tableAnswerUpTo, taken, writing, written, writtenOf, Taken}
 use Rattle.rules.specs.TableText.{Records, padded, recordsOf, tableOf, textOf}
 use Rattle.rules.specs.Valid.{Valid, WithinPlaces}
 use Rattle.rules.specs.declared.Decision.{Decision}
@@ -37,19 +37,19 @@ use Rattle.rules.specs.declared.Verdict.{Verdict}
 use Rattle.rules.specs.declared.Written.{Written}
 use Rattle.writer.proofs.Unique as writer
 
--- the rules plan a text that is read, where both buffers have room
-planning-taken : (text order fates : List ℕ) (t : Records) → read text ≡ taken t → HasRoom order fates
-    → planning text order fates ≡ leavesPlan (planOf t) order fates
-unfolding planning leavesOf
-planning-taken text order fates t e large = rw (room order (large .order-room)) (rw (room fates (large .fate-room)) (rw e))
+-- the rules plan what is taken, where both buffers have room
+planning-taken : (k : Taken) (order fates : List ℕ) (t : Records) → k ≡ taken t → HasRoom order fates
+    → planningOf k order fates ≡ leavesPlan (planOf t) order fates
+unfolding planningOfUpTo leavesOf
+planning-taken k order fates t e large = rw (room order (large .order-room)) (rw (room fates (large .fate-room)) (rw e))
 
-planned-by : (text order fates : List ℕ) (t : Records) → read text ≡ taken t → HasRoom order fates
-    → (says : Answer) (order′ fates′ : List ℕ) → says ≡ planning text order fates .answer
-    → order′ ≡ planning text order fates .order → fates′ ≡ planning text order fates .fates
+planned-by : (k : Taken) (order fates : List ℕ) (t : Records) → k ≡ taken t → HasRoom order fates
+    → (says : Answer) (order′ fates′ : List ℕ) → says ≡ planningOf k order fates .answer
+    → order′ ≡ planningOf k order fates .order → fates′ ≡ planningOf k order fates .fates
     → PlannedBy t order fates says order′ fates′
 unfolding leavesPlan
-planned-by text order fates t e large says order′ fates′ answered order-left fates-left =
-    let same = planning-taken text order fates t e large in
+planned-by k order fates t e large says order′ fates′ answered order-left fates-left =
+    let same = planning-taken k order fates t e large in
     record {
       answer = answered ∙ ap (λ (a : AfterPlanning). a .answer) same;
       order-left = order-left ∙ ap (λ (a : AfterPlanning). a .order) same;
@@ -61,16 +61,16 @@ pub plan-into-gives : (lifetimes : Lfts 3) (text order fates order′ fates′ :
     → planner.Promised lifetimes text order fates d order′ fates′ → read (text .now) ≡ taken t → HasRoom (order .now) (fates .now)
     → PlannedBy t (order .now) (fates .now) (decisionSays d) (order′ .now) (fates′ .now)
 plan-into-gives lifetimes text order fates order′ fates′ d t promise e large =
-    planned-by (text .now) (order .now) (fates .now) t e large (decisionSays d) (order′ .now) (fates′ .now)
+    planned-by (read (text .now)) (order .now) (fates .now) t e large (decisionSays d) (order′ .now) (fates′ .now)
     (ap (λ (a : AfterPlanning). a .answer) promise)
     (ap (λ (a : AfterPlanning). a .order) promise)
     (ap (λ (a : AfterPlanning). a .fates) promise)
 
 pub cuddlelamb-plan-gives : (text order fates order′ fates′ : List ℕ) (r : PlanAnswer) (t : Records)
-    → boundary.PlannedAs text order fates r order′ fates′ → read text ≡ taken t → HasRoom order fates
+    → boundary.PlanTold (read text) order fates r order′ fates′ → read text ≡ taken t → HasRoom order fates
     → PlannedBy t order fates (boundary.planSays r) order′ fates′
 cuddlelamb-plan-gives text order fates order′ fates′ r t promise e large =
-    planned-by text order fates t e large (boundary.planSays r) order′ fates′
+    planned-by (read text) order fates t e large (boundary.planSays r) order′ fates′
     (promise .answer) (promise .order-left) (promise .fates-left)
 
 numbers-length : (t : Records) → length (numbersOf (planOf t .jobs)) ≡ length (planOf t .jobs)
@@ -84,11 +84,11 @@ front-of-plan t places = take-at (numbersOf (planOf t .jobs)) _ (length (planOf 
 
 -- `plan`: the part is the plan
 pub plan-gives : (text order fates : List ℕ) (begin : ℕ × ℕ) (r : Planned) (fates′ : List ℕ) (t : Records)
-    → PlannedAs text order fates begin r fates′ → read text ≡ taken t → HasRoom order fates
+    → PlannedAs (read text) order fates begin r fates′ → read text ≡ taken t → HasRoom order fates
     → PartBy t fates (decisionSays (r .decision)) (now (r .plan)) fates′
 unfolding leavesPlan partOf
 plan-gives text order fates begin r fates′ t promise e large =
-    let same = planning-taken text order fates t e large in
+    let same = planning-taken (read text) order fates t e large in
     record {
       part-is = promise .plan ∙ ap partOf same ∙ front-of-plan t (length order);
       answer = promise .decided ∙ ap (λ (a : AfterPlanning). a .answer) same;
@@ -112,7 +112,7 @@ list-gives lifetimes text out after w promise h =
     at-front (listingOf (text .now)) (out .now) h (writtenSays w) (after .now)
     (ap (λ (a : AfterWriting). a .answer) promise) (ap (λ (a : AfterWriting). a .out) promise)
 
-pub cuddlelamb-list-gives : (text out after : List ℕ) (r : TextAnswer) → boundary.ListedAs text out r after
+pub cuddlelamb-list-gives : (text out after : List ℕ) (r : TextAnswer) → boundary.ListTold text out r after
     → length (listingOf text) ≤ length out → AtFront (listingOf text) out (boundary.textSays r) after
 unfolding listing
 cuddlelamb-list-gives text out after r promise h =
@@ -133,7 +133,7 @@ write-gives lifetime t out after w promise fits valid h =
     at-front (textOf (recordsOf t)) (out .now) h (writtenSays w) (after .now)
     (promise .answer ∙ ap (λ (a : AfterWriting). a .answer) same) (promise .buffer ∙ ap (λ (a : AfterWriting). a .out) same)
 
-pub cuddlelamb-write-gives : (t : Table) (out after : List ℕ) (r : TextAnswer) → boundary.WrittenAs t out r after
+pub cuddlelamb-write-gives : (t : Table) (out after : List ℕ) (r : TextAnswer) → boundary.WriteTold t out r after
     → WithinPlaces t → Valid (recordsOf t) → length (textOf (recordsOf t)) ≤ length out
     → AtFront (textOf (recordsOf t)) out (boundary.textSays r) after
 cuddlelamb-write-gives t out after r promise fits valid h =
@@ -144,13 +144,13 @@ cuddlelamb-write-gives t out after r promise fits valid h =
 -- `read`: the table of the records
 pub read-gives : (lifetime : Lfts 1) (text : RefT (List ℕ)) (r : Reading) (t : Records) → reader.Promised lifetime text r
     → read (text .now) ≡ taken t → r ≡ record { verdict = Verdict.Done; table = tableOf t }
-unfolding reading tableAnswer
+unfolding readingUpTo tableAnswerUpTo
 read-gives lifetime text r t promise e =
     reading-unique r (record { verdict = Verdict.Done; table = tableOf t }) (promise ∙ rw e)
 
-pub cuddlelamb-read-gives : (text : List ℕ) (r : TableTold) (t : Records) → boundary.ReadAs text r → read text ≡ taken t
+pub cuddlelamb-read-gives : (text : List ℕ) (r : TableAnswer) (t : Records) → boundary.ReadTold text r → read text ≡ taken t
     → (boundary.tableSays r ≡ good []) × (r .table ≡ tableOf t)
-unfolding reading tableAnswer
+unfolding readingUpTo tableAnswerUpTo
 cuddlelamb-read-gives text r t promise e = (promise .answer ∙ rw e, promise .table ∙ rw e)
 
 -- `clock_and_budget`: those of the table

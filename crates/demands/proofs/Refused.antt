@@ -10,7 +10,7 @@ use Rattle.boundary.specs.Told as boundary
 use Rattle.boundary.specs.declared.CostsAnswer.{CostsAnswer}
 use Rattle.boundary.specs.declared.CyclesAnswer.{CyclesAnswer}
 use Rattle.boundary.specs.declared.PlanAnswer.{PlanAnswer}
-use Rattle.boundary.specs.declared.TableAnswer.{TableAnswer as TableTold}
+use Rattle.boundary.specs.declared.TableAnswer.{TableAnswer}
 use Rattle.boundary.specs.declared.TextAnswer.{TextAnswer}
 use Rattle.costs.proofs.Unique as costs
 use Rattle.cycles.proofs.Unique as cycles
@@ -26,9 +26,9 @@ use Rattle.planner.proofs.Unique as planner
 use Rattle.planner.specs.Promises.{PlannedAs}
 use Rattle.planner.specs.declared.Planned.{Planned}
 use Rattle.reader.proofs.Unique as reader
-use Rattle.rules.specs.Answers.{TableAnswer, allocatedSays, decisionSays, readingSays, suppliedSays, writtenSays}
+use Rattle.rules.specs.Answers.{ReadAnswer, allocatedSays, decisionSays, readingSays, suppliedSays, writtenSays}
 use Rattle.rules.specs.Plan.{AfterPlanning}
-use Rattle.rules.specs.Refusals.{AfterWriting}
+use Rattle.rules.specs.Refusals.{AfterWriting, read}
 use Rattle.rules.specs.TableText.{noRecords, tableOf}
 use Rattle.rules.specs.declared.Allocated.{Allocated}
 use Rattle.rules.specs.declared.Decision.{Decision}
@@ -43,18 +43,18 @@ use Rattle.writer.proofs.Unique as writer
 
 pub plan-into-refuses : (lifetimes : Lfts 3) (text order fates order′ fates′ : RefT (List ℕ)) (d : Decision)
     → planner.Promised lifetimes text order fates d order′ fates′
-    → Refuses (PlanRefused (text .now) (order .now) (fates .now)) (decisionSays d) (0 ∷ 0 ∷ 0 ∷ [])
+    → Refuses (PlanRefused (read (text .now)) (order .now) (fates .now)) (decisionSays d) (0 ∷ 0 ∷ 0 ∷ [])
     ((order′ .now ≡ order .now) × (fates′ .now ≡ fates .now))
 plan-into-refuses lifetimes text order fates order′ fates′ d promise =
-    carried (planning-refuses (text .now) (order .now) (fates .now)) (ap (λ (a : AfterPlanning). a .answer) promise)
+    carried (planning-refuses (read (text .now)) (order .now) (fates .now)) (ap (λ (a : AfterPlanning). a .answer) promise)
     (λ held. (ap (λ (a : AfterPlanning). a .order) promise ∙ held .0, ap (λ (a : AfterPlanning). a .fates) promise ∙ held .1))
 
 pub plan-refuses : (text order fates : List ℕ) (begin : ℕ × ℕ) (r : Planned) (fates′ : List ℕ)
-    → PlannedAs text order fates begin r fates′
-    → Refuses (PlanRefused text order fates) (decisionSays (r .decision)) (0 ∷ 0 ∷ 0 ∷ [])
+    → PlannedAs (read text) order fates begin r fates′
+    → Refuses (PlanRefused (read text) order fates) (decisionSays (r .decision)) (0 ∷ 0 ∷ 0 ∷ [])
     ((now (r .plan) ≡ []) × (fates′ ≡ fates))
 plan-refuses text order fates begin r fates′ promise =
-    carried (planning-refuses text order fates) (promise .decided)
+    carried (planning-refuses (read text) order fates) (promise .decided)
     (λ held. (promise .plan ∙ held .2, promise .fates-left ∙ held .1))
 
 pub list-refuses : (lifetimes : Lfts 2) (text out after : RefT (List ℕ)) (w : Written)
@@ -73,8 +73,8 @@ write-refuses lifetime t out after w promise =
 pub read-refuses : (lifetime : Lfts 1) (text : RefT (List ℕ)) (r : Reading) → reader.Promised lifetime text r
     → Refuses (ReadRefused (text .now)) (readingSays r .answer) [] (r .table ≡ tableOf noRecords)
 read-refuses lifetime text r promise =
-    carried (reading-refuses (text .now)) (ap (λ (a : TableAnswer). a .answer) promise)
-    (λ held. ap (λ (a : TableAnswer). a .table) promise ∙ held)
+    carried (reading-refuses (text .now)) (ap (λ (a : ReadAnswer). a .answer) promise)
+    (λ held. ap (λ (a : ReadAnswer). a .table) promise ∙ held)
 
 pub clock-and-budget-refuses : (lifetime : Lfts 1) (text : RefT (List ℕ)) (r : ClockLine) → front.Promised lifetime text r
     → Refuses (FirstLineRefused (text .now)) (clockLineSays r) [] NothingLent
@@ -97,33 +97,33 @@ supplied-refuses model r promise = carried (costs-refuses model) promise (λ hel
 -- the calls for C and Rust
 
 pub cuddlelamb-plan-refuses : (text order fates order′ fates′ : List ℕ) (r : PlanAnswer)
-    → boundary.PlannedAs text order fates r order′ fates′
-    → Refuses (PlanRefused text order fates) (boundary.planSays r) (0 ∷ 0 ∷ 0 ∷ []) ((order′ ≡ order) × (fates′ ≡ fates))
+    → boundary.PlanTold (read text) order fates r order′ fates′
+    → Refuses (PlanRefused (read text) order fates) (boundary.planSays r) (0 ∷ 0 ∷ 0 ∷ []) ((order′ ≡ order) × (fates′ ≡ fates))
 cuddlelamb-plan-refuses text order fates order′ fates′ r promise =
-    carried (planning-refuses text order fates) (promise .answer)
+    carried (planning-refuses (read text) order fates) (promise .answer)
     (λ held. (promise .order-left ∙ held .0, promise .fates-left ∙ held .1))
 
-pub cuddlelamb-list-refuses : (text out after : List ℕ) (r : TextAnswer) → boundary.ListedAs text out r after
+pub cuddlelamb-list-refuses : (text out after : List ℕ) (r : TextAnswer) → boundary.ListTold text out r after
     → Refuses (ListRefused text out) (boundary.textSays r) (0 ∷ []) (after ≡ out)
 cuddlelamb-list-refuses text out after r promise =
     carried (listing-refuses text out) (promise .answer) (λ held. promise .out-left ∙ held)
 
-pub cuddlelamb-write-refuses : (t : Table) (out after : List ℕ) (r : TextAnswer) → boundary.WrittenAs t out r after
+pub cuddlelamb-write-refuses : (t : Table) (out after : List ℕ) (r : TextAnswer) → boundary.WriteTold t out r after
     → Refuses (WriteRefused t out) (boundary.textSays r) (0 ∷ []) (after ≡ out)
 cuddlelamb-write-refuses t out after r promise =
     carried (writing-refuses t out) (promise .answer) (λ held. promise .out-left ∙ held)
 
-pub cuddlelamb-read-refuses : (text : List ℕ) (r : TableTold) → boundary.ReadAs text r
+pub cuddlelamb-read-refuses : (text : List ℕ) (r : TableAnswer) → boundary.ReadTold text r
     → Refuses (ReadRefused text) (boundary.tableSays r) [] (r .table ≡ tableOf noRecords)
 cuddlelamb-read-refuses text r promise =
     carried (reading-refuses text) (promise .answer) (λ held. promise .table ∙ held)
 
 pub cuddlelamb-allocate-refuses : (mean variance assurance : ℕ) (r : CyclesAnswer)
-    → boundary.AllocatedAs mean variance assurance r
+    → boundary.AllocateTold mean variance assurance r
     → Refuses (AllocationRefused mean variance assurance) (boundary.cyclesSays r) (0 ∷ []) NothingLent
 cuddlelamb-allocate-refuses mean variance assurance r promise =
     carried (allocation-refuses mean variance assurance) (promise .answer) (λ held. held)
 
-pub cuddlelamb-costs-refuses : (model : ℕ) (r : CostsAnswer) → boundary.CostsAs model r
+pub cuddlelamb-costs-refuses : (model : ℕ) (r : CostsAnswer) → boundary.CostsTold model r
     → Refuses (CostsRefused model) (boundary.costsSays r) (0 ∷ 0 ∷ 0 ∷ 0 ∷ 0 ∷ 0 ∷ 0 ∷ []) NothingLent
 cuddlelamb-costs-refuses model r promise = carried (costs-refuses model) (promise .answer) (λ held. held)

@@ -16,15 +16,15 @@ use Rattle.front.specs.ClockLine.{firstLine, firstOf, lineOneSays}
 use Rattle.laws.proofs.Allocation.{refused-outside, refused-where-none-enough}
 use Rattle.laws.proofs.Choices.{split, split-option}
 use Rattle.laws.proofs.Tests.{within-above}
-use Rattle.laws.proofs.Trips.{check-exactly}
+use Rattle.grammar.proofs.Trips.{check-exactly}
 use Rattle.planner.proofs.Decisions.{either-true, room, too-small}
-use Rattle.rules.specs.Answers.{Answer, TableAnswer, refused}
+use Rattle.rules.specs.Answers.{Answer, ReadAnswer, refused}
 use Rattle.rules.specs.Costs.{suppliedCosts}
 use Rattle.rules.specs.Cycles.{allocated, allocation, askedInRange, enough, leastFrom}
 use Rattle.rules.specs.Lists.{within}
 use Rattle.rules.specs.Listing.{listing, listingOf}
-use Rattle.rules.specs.Plan.{AfterPlanning, leavesAll, leavesOf, leavesPlan, partOf, planning, tooSmall}
-use Rattle.rules.specs.Refusals.{AfterWriting, Item, Judged, Taken, accept, accepted, check, itemsIn, nothing, read, reading, refusedAt, refusedFor, refusedOut, tableAnswer, taken, writing, written, writtenOf}
+use Rattle.rules.specs.Plan.{AfterPlanning, leavesAll, leavesOf, leavesPlan, partOf, planningOfUpTo, tooSmall, tooSmallUpTo, planningOf}
+use Rattle.rules.specs.Refusals.{AfterWriting, Item, Judged, Taken, accept, accepted, check, itemsIn, nothing, read, reading, readingUpTo, refusedAt, refusedFor, refusedOut, tableAnswer, tableAnswerUpTo, taken, writing, written, writtenOf}
 use Rattle.rules.specs.TableText.{linesOf, mostCycles, mostJobs, noRecords, recordsOf, tableOf, textOf}
 use Rattle.rules.specs.declared.Refusal.{Refusal}
 use Rattle.rules.specs.declared.Table.{Table}
@@ -59,44 +59,44 @@ module _ {Given : Refusal → ℕ → Type 0} {values : List ℕ} where
 -- the plan
 
 small-buffer : (buffer : List ℕ) → tooSmall buffer ≡ true → length buffer < mostJobs
-unfolding tooSmall
+unfolding tooSmallUpTo
 small-buffer buffer h = ltb-true (length buffer) mostJobs h
 
 large-buffer : (buffer : List ℕ) → tooSmall buffer ≡ false → mostJobs ≤ length buffer
-unfolding tooSmall
+unfolding tooSmallUpTo
 large-buffer buffer h = ltb-false (length buffer) mostJobs h
 
-module _ (text order fates : List ℕ) where
-  left-refused : (why : Refusal) (line : ℕ) → PlanRefused text order fates why line
-      → planning text order fates ≡ leavesAll why line order fates
-  unfolding planning leavesOf
+module _ (k : Taken) (order fates : List ℕ) where
+  left-refused : (why : Refusal) (line : ℕ) → PlanRefused k order fates why line
+      → planningOf k order fates ≡ leavesAll why line order fates
+  unfolding planningOfUpTo leavesOf
   left-refused why line (order-too-small h) = rw (too-small order h)
   left-refused why line (fates-too-small h) = rw (too-small fates h) (rw (either-true (tooSmall order)))
   left-refused why line (bad-line large e) = rw (room order (large .order-room)) (rw (room fates (large .fate-room)) (rw e))
 
-  bad-text-only : (k : Taken) → read text ≡ k → HasRoom order fates → IsRefusal (leavesOf k order fates .answer)
-      → SomeRefusal (PlanRefused text order fates)
+  bad-taken-only : (r : Taken) → k ≡ r → HasRoom order fates → IsRefusal (leavesOf r order fates .answer)
+      → SomeRefusal (PlanRefused k order fates)
   unfolding leavesOf leavesPlan
-  bad-text-only (taken t) e large r = absurd (r refl)
-  bad-text-only (refusedAt why line) e large r = (why, line, bad-line large e)
+  bad-taken-only (taken t) e large r = absurd (r refl)
+  bad-taken-only (refusedAt why line) e large r = (why, line, bad-line large e)
 
-  refused-only : IsRefusal (planning text order fates .answer) → SomeRefusal (PlanRefused text order fates)
-  unfolding planning
+  refused-only : IsRefusal (planningOf k order fates .answer) → SomeRefusal (PlanRefused k order fates)
+  unfolding planningOfUpTo
   refused-only r =
       split (tooSmall order)
       (λ h. (Refusal.Room, 0, order-too-small (small-buffer order h)))
       (λ h. split (tooSmall fates)
       (λ g. (Refusal.Room, 0, fates-too-small (small-buffer fates g)))
-      (λ g. bad-text-only (read text) refl (record { order-room = large-buffer order h; fate-room = large-buffer fates g })
+      (λ g. bad-taken-only k refl (record { order-room = large-buffer order h; fate-room = large-buffer fates g })
       (rw g at (rw h at r))))
 
-  pub planning-refuses : Refuses (PlanRefused text order fates) (planning text order fates .answer) (0 ∷ 0 ∷ 0 ∷ [])
-      ((planning text order fates .order ≡ order)
-      × (planning text order fates .fates ≡ fates)
-      × (partOf (planning text order fates) ≡ []))
+  pub planning-refuses : Refuses (PlanRefused k order fates) (planningOf k order fates .answer) (0 ∷ 0 ∷ 0 ∷ [])
+      ((planningOf k order fates .order ≡ order)
+      × (planningOf k order fates .fates ≡ fates)
+      × (partOf (planningOf k order fates) ≡ []))
   unfolding leavesAll partOf
   planning-refuses =
-      refuses-by (λ (a : AfterPlanning). a .answer) (planning text order fates) (λ why line. leavesAll why line order fates)
+      refuses-by (λ (a : AfterPlanning). a .answer) (planningOf k order fates) (λ why line. leavesAll why line order fates)
       (λ why line. refl) left-refused refused-only
       (λ why line e. (ap (λ (a : AfterPlanning). a .order) e, ap (λ (a : AfterPlanning). a .fates) e, ap partOf e))
 
@@ -150,19 +150,19 @@ module _ (t : Table) (out : List ℕ) where
 
 module _ (text : List ℕ) where
   read-left : (why : Refusal) (line : ℕ) → ReadRefused text why line → reading text ≡ tableAnswer (refusedAt why line)
-  unfolding reading
+  unfolding readingUpTo
   read-left why line (bad-text e) = rw e
 
   read-only : (k : Taken) → read text ≡ k → IsRefusal (tableAnswer k .answer) → SomeRefusal (ReadRefused text)
-  unfolding tableAnswer
+  unfolding tableAnswerUpTo
   read-only (taken r) e n = absurd (n refl)
   read-only (refusedAt why line) e n = (why, line, bad-text e)
 
   pub reading-refuses : Refuses (ReadRefused text) (reading text .answer) [] (reading text .table ≡ tableOf noRecords)
-  unfolding reading tableAnswer
+  unfolding readingUpTo tableAnswerUpTo
   reading-refuses =
-      refuses-by (λ (a : TableAnswer). a .answer) (reading text) (λ why line. tableAnswer (refusedAt why line))
-      (λ why line. refl) read-left (read-only (read text) refl) (λ why line e. ap (λ (a : TableAnswer). a .table) e)
+      refuses-by (λ (a : ReadAnswer). a .answer) (reading text) (λ why line. tableAnswer (refusedAt why line))
+      (λ why line. refl) read-left (read-only (read text) refl) (λ why line e. ap (λ (a : ReadAnswer). a .table) e)
 
   -- its first line
 

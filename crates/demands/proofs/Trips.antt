@@ -7,11 +7,11 @@ use contract.Lifetimes.{Lfts}
 use denote.Ref.{RefT}
 use lib.ListN.{length, take}
 use Rattle.demands.specs.Trips.{SameTable, SameText}
-use Rattle.laws.proofs.Trips.{WrittenBack, read-exactly, read-text, table-checked, table-records, written-back, written-read-again}
+use Rattle.grammar.proofs.Trips.{WrittenBack, read-exactly, read-text, table-checked, table-records, written-back, written-read-again}
 use Rattle.laws.proofs.Unique.{reading-unique, refusal-not-0, written-unique}
 use Rattle.reader.proofs.Unique.{Promised as Reads}
-use Rattle.rules.specs.Answers.{TableAnswer, readingSays, writtenSays}
-use Rattle.rules.specs.Refusals.{Taken, check, read, reading, refusedAt, tableAnswer, taken, writing}
+use Rattle.rules.specs.Answers.{ReadAnswer, readingSays, writtenSays}
+use Rattle.rules.specs.Refusals.{Taken, check, read, reading, readingUpTo, refusedAt, tableAnswer, tableAnswerUpTo, taken, writing}
 use Rattle.rules.specs.TableText.{Records, recordsOf, tableOf, textOf}
 use Rattle.rules.specs.declared.Reading.{Reading}
 use Rattle.rules.specs.declared.Table.{Table}
@@ -23,10 +23,10 @@ use Rattle.writer.proofs.Unique.{Promised as Writes}
 done-taken : (text : List ℕ) (table : Table) (k : Taken) → read text ≡ k
     → readingSays (record { verdict = Verdict.Done; table = table }) ≡ tableAnswer k
     → (r : Records) × (read text ≡ taken r) × (table ≡ tableOf r)
-unfolding tableAnswer
-done-taken text table (taken r) e q = (r, e, ap (λ (a : TableAnswer). a .table) q)
+unfolding tableAnswerUpTo
+done-taken text table (taken r) e q = (r, e, ap (λ (a : ReadAnswer). a .table) q)
 done-taken text table (refusedAt why line) e q =
-    absurd (refusal-not-0 why (sym (ap (λ (a : TableAnswer). a .answer .number) q)))
+    absurd (refusal-not-0 why (sym (ap (λ (a : ReadAnswer). a .answer .number) q)))
 
 same-text : (text out after : List ℕ) (table : Table) (w : Written)
     → (r : Records) × (read text ≡ taken r) × (table ≡ tableOf r)
@@ -47,7 +47,7 @@ module _ (lifetime lifetime' : Lfts 1) where
   pub text-again : (text : RefT (List ℕ)) (r : Reading) → Reads lifetime text r → r .verdict ≡ Verdict.Done
       → (out after : RefT (List ℕ)) (w : Written) → Writes lifetime' (r .table) out w after → length (text .now) ≤ length (out .now)
       → SameText (text .now) (out .now) (after .now) w
-  unfolding reading
+  unfolding readingUpTo
   text-again text r read-it done out after w written-it room =
       let found = done-taken (text .now) (r .table) (read (text .now)) refl (rw done at read-it) in
       same-text (text .now) (out .now) (after .now) (r .table) w found (written-it .answer) (written-it .buffer) room
@@ -56,7 +56,7 @@ module _ (lifetime lifetime' : Lfts 1) where
   pub table-again : (t : Table) (out after : RefT (List ℕ)) (n : ℕ) → Writes lifetime' t out (Written.Length n) after
       → (text : RefT (List ℕ)) → text .now ≡ take n (after .now) → (r : Reading) → Reads lifetime text r
       → SameTable t r
-  unfolding reading tableAnswer
+  unfolding readingUpTo tableAnswerUpTo
   table-again t out after n written-it text front r read-it =
       let took : read (text .now) ≡ taken (recordsOf t) =
       rw front (rw (written-it .buffer) (written-read-again t (out .now) n (sym (written-it .answer)))) in

@@ -20,12 +20,12 @@ use Rattle.demands.proofs.Planned.{cuddlelamb-list-gives, cuddlelamb-pl
 use Rattle.demands.specs.Plans.{AtFront, HasRoom, PlannedBy, decided}
 use Rattle.demands.specs.Unplanned.{NoneInFront, SameFates, SameListing, SameOutside, SamePart, TextsAgree, fateLines, frontOf}
 use Rattle.laws.proofs.Choices.{one-there, split}
-use Rattle.laws.proofs.Demand3.{unplanned-do-not-matter}
+use Rattle.theorems.proofs.Demand3.{unplanned-do-not-matter}
 use Rattle.laws.proofs.Elements.{each-at-place}
-use Rattle.laws.proofs.Jobs.{Listed, jobs-listed}
+use Rattle.steps.proofs.Jobs.{Listed, jobs-listed}
 use Rattle.laws.proofs.Lookups.{each-always, each-unmap, find-keep, keep-agree}
-use Rattle.laws.proofs.Trips.{read-exactly}
-use Rattle.laws.specs.Demand3.{Alike, NonePlanned, outOf, outerFated}
+use Rattle.grammar.proofs.Trips.{read-exactly}
+use Rattle.theorems.specs.Demand3.{Alike, NonePlanned, outOf, outerFated}
 use Rattle.listing.proofs.Unique as listing
 use Rattle.planner.proofs.Unique as planner
 use Rattle.planner.specs.Promises.{PlannedAs}
@@ -40,6 +40,7 @@ use Rattle.rules.specs.Valid.{Valid}
 use Rattle.rules.specs.declared.Decision.{Decision}
 use Rattle.rules.specs.declared.Job.{Job}
 use Rattle.rules.specs.declared.Written.{Written}
+use Rattle.rules.specs.Refusals.{read}
 
 front-at : (xs ys : List ℕ) (i : ℕ) → i < length xs → getD (xs ++ ys) i 0 ≡ getD xs i 0
 front-at [] ys i h = absurd (omega arith)
@@ -214,7 +215,7 @@ module _ (set : ℕ → Bool) where
   module _ (text text* order order* fates fates* order′ order*′ fates′ fates*′ : List ℕ) (r s : PlanAnswer) (a b : Records) where
     -- Demand 3, over `cuddlelamb_plan`.
     pub unplanned-do-not-matter-to-cuddlelamb-plan :
-        boundary.PlannedAs text order fates r order′ fates′ → boundary.PlannedAs text* order* fates* s order*′ fates*′
+        boundary.PlanTold (read text) order fates r order′ fates′ → boundary.PlanTold (read text*) order* fates* s order*′ fates*′
         → TextsAgree set text text* a b → HasRoom order fates → HasRoom order* fates*
         → NoneInFront set (frontOf (boundary.planSays r) order′) → NoneInFront set (frontOf (boundary.planSays s) order*′)
         → SameOutside (outOf set) a b (boundary.planSays r) (boundary.planSays s) order′ order*′ fates′ fates*′
@@ -228,7 +229,7 @@ module _ (set : ℕ → Bool) where
       (a b : Records) where
     -- Demand 3, over `plan`.
     pub unplanned-do-not-matter-to-plan :
-        PlannedAs text order fates begin r fates′ → PlannedAs text* order* fates* begin* s fates*′
+        PlannedAs (read text) order fates begin r fates′ → PlannedAs (read text*) order* fates* begin* s fates*′
         → TextsAgree set text text* a b → HasRoom order fates → HasRoom order* fates*
         → NoneInFront set (now (r .plan)) → NoneInFront set (now (s .plan))
         → SamePart (outOf set) a b (decisionSays (r .decision)) (decisionSays (s .decision))
@@ -261,7 +262,7 @@ module _ (set : ℕ → Bool) where
   module _ (text text* out out* after after* : List ℕ) (r s : TextAnswer) (a b : Records) where
     -- Demand 3, over `cuddlelamb_list`.
     pub unplanned-do-not-matter-to-cuddlelamb-list :
-        boundary.ListedAs text out r after → boundary.ListedAs text* out* s after*
+        boundary.ListTold text out r after → boundary.ListTold text* out* s after*
         → TextsAgree set text text* a b → NonePlanned set a → NonePlanned set b
         → length (listingOf text) ≤ length out → length (listingOf text*) ≤ length out*
         → SameListing (outOf set) a b (frontOf (boundary.textSays r) after) (frontOf (boundary.textSays s) after*)

@@ -9,7 +9,7 @@ use Rattle.demands.specs.Plans.{HasRoom}
 use Rattle.rules.specs.Answers.{Answer, refused}
 use Rattle.rules.specs.Cycles.{askedInRange, enough}
 use Rattle.rules.specs.Listing.{listingOf}
-use Rattle.rules.specs.Refusals.{check, read, refusedAt}
+use Rattle.rules.specs.Refusals.{check, read, refusedAt, Taken}
 use Rattle.rules.specs.TableText.{mostCycles, mostJobs, recordsOf, textOf}
 use Rattle.rules.specs.Valid.{Valid, WithinPlaces}
 use Rattle.rules.specs.declared.Refusal.{Refusal}
@@ -35,11 +35,10 @@ NothingLent = Unit
 
 -- "before reading it looks at its two lent buffers: an order buffer or a fate buffer of fewer than 64 places is refused 8
 -- with line 0"; then "the first bad line decides"
-pub data PlanRefused (text order fates : List ℕ) : Refusal → ℕ → Type 0 where
-  order-too-small : length order < mostJobs → PlanRefused text order fates Refusal.Room 0
-  fates-too-small : length fates < mostJobs → PlanRefused text order fates Refusal.Room 0
-  bad-line : {why : Refusal} {line : ℕ} → HasRoom order fates → read text ≡ refusedAt why line
-      → PlanRefused text order fates why line
+pub data PlanRefused (k : Taken) (order fates : List ℕ) : Refusal → ℕ → Type 0 where
+  order-too-small : length order < mostJobs → PlanRefused k order fates Refusal.Room 0
+  fates-too-small : length fates < mostJobs → PlanRefused k order fates Refusal.Room 0
+  bad-line : {why : Refusal} {line : ℕ} → HasRoom order fates → k ≡ refusedAt why line → PlanRefused k order fates why line
 
 -- 8: the listing is longer than the lent buffer. A refused text is a success: its R line.
 pub data ListRefused (text out : List ℕ) : Refusal → ℕ → Type 0 where

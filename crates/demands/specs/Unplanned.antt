@@ -4,7 +4,7 @@ use mathlib.Core.List.{List, _++_}
 use mathlib.Core.Path.{_≡_}
 use Prim.Native.Nat.{ℕ, _<_}
 use lib.ListN.{getD, length, take}
-use Rattle.laws.specs.Demand3.{Agree, NoneAsksInside, outOf, outerFated}
+use Rattle.theorems.specs.Demand3.{Agree, NoneAsksInside, outOf, outerFated}
 use Rattle.rules.specs.Answers.{Answer}
 use Rattle.rules.specs.Listing.{fateLine, orderLine, planLine, unplanned}
 use Rattle.rules.specs.Lists.{Each, joined, keep}

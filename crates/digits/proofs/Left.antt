@@ -1,16 +1,17 @@
 -- Both loops over the digits of a number divide by ten: what is left then is the number of the digits not yet passed.
 -- Divided once more it is that of one digit fewer, and it is below ten where one digit is left. Assumes nothing.
-use mathlib.Core.Path.{_≡_, refl, sym}
+use mathlib.Core.Path.{_≡_, refl, sym, _∙_}
 use mathlib.Core.Bool.{Bool, true, false}
 use mathlib.Core.List.{List}
 use Prim.Native.Nat.{ℕ, suc, _+_, _-_, _/_, _%_, _^_, _≤_, _<_}
+use native.Mathlib.Nat.{div-div-eq-div-mul}
 use native.Mathlib.Omega.{arith}
 use borrow.Author.Tests.{ltb-false, ltb-true}
 use lib.Dec.{ltb}
 use lib.ListN.{length, take, drop, getD, set, length-set}
 use lib.Seq.{take-length, drop-cons, drop-set-lt, getD-set-same}
-use Rattle.laws.proofs.Decimal.{value-digitsOf}
-use Rattle.laws.proofs.DecimalBack.{value-below, value-last-digit, value-ten, value-tenth}
+use Rattle.grammar.proofs.Decimal.{value-digitsOf}
+use Rattle.grammar.proofs.DecimalBack.{value-below, value-last-digit, value-ten, value-tenth}
 use Rattle.rules.specs.Lists.{all}
 use Rattle.rules.specs.TableText.{digitZero, digitsOf, isDigit, leadingZero, valueFrom}
 
@@ -36,6 +37,15 @@ module _ (ds : List ℕ) (digits : all isDigit ds ≡ true) where
           let none : length ds - count ≡ 0 = omega (arith, ltb-false count (length ds) q) in
           let last : rest ≡ numberLeft ds 1 = rw none at e in
           absurd (omega (arith, value-below ds digits 1 (omega arith)))
+
+  -- a hundred or more: two more digits
+  pub hundred-left : (count rest : ℕ) → 1 ≤ count → count ≤ length ds → rest ≡ numberLeft ds (suc (length ds - count)) → 100 ≤ rest
+      → (count + 2 ≤ length ds) × (rest / 100 ≡ numberLeft ds (suc (length ds - (count + 2))))
+  hundred-left count rest some fits e h =
+      let one = ten-left count rest some fits e (omega arith) in
+      let two = ten-left (count + 1) (rest / 10) (omega arith) (omega (arith, one .0)) (one .1) (omega arith) in
+      let both : count + 1 + 1 ≡ count + 2 = omega arith in
+      (omega (arith, two .0), sym (div-div-eq-div-mul rest 10 10) ∙ rw both at (two .1))
 
   -- less than ten: no digit more
   pub none-left : (count rest : ℕ) → leadingZero ds ≡ false → 1 ≤ count → count ≤ length ds → rest ≡ numberLeft ds (suc (length ds - count)) → rest < 10

@@ -1,1 +1,3 @@
 mod Left
+pub mod Rows
+pub mod PutSoFar

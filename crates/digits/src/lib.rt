@@ -2,18 +2,22 @@
 ghost use mathlib.Core.Path.{_≡_};
 ghost use Prim.Native.Nat.{ℕ, _+_, _≤_};
 ghost use lib.ListN.{length};
-ghost use Rattle.laws.specs.Put.{put};
+ghost use Rattle.digits.specs.Rows.{mostNumbers, rowLines};
+ghost use Rattle.grammar.specs.Put.{put};
 ghost use Rattle.rules.specs.TableText.{digitsOf, lineText};
 
-// How many digits a number has.
+// How many digits a number has, counted two at a time: each line is counted before it is written.
 pub fn width(n: u64) -> usize
     ensures { λ r. ⌜ r ≡ length (digitsOf n) ⌝ }
 {
     let mut rest = n;
     let mut count: usize = 1;
-    while 10 <= rest {
-        rest = rest / 10;
-        count += 1;
+    while 100 <= rest {
+        rest = rest / 100;
+        count += 2;
+    }
+    if 10 <= rest {
+        return count + 1;
     }
     count
 }
@@ -43,9 +47,9 @@ pub fn put_number(out: &mut [u8], at: usize, n: u64) -> usize
     end
 }
 
-// How many bytes a line of these numbers has, whatever its letter. No line has more than six.
+// How many bytes a line of these numbers has, whatever its letter.
 pub fn line_length(numbers: &[u64]) -> usize
-    requires { ⌜ length (now numbers) ≤ 6 ⌝ }
+    requires { ⌜ length (now numbers) ≤ mostNumbers ⌝ }
     ensures { λ r. ⌜ ((letter : ℕ) → r ≡ length (lineText letter (now (numbers .entry)))) ⌝ }
 {
     let mut bytes: usize = 2;
@@ -75,4 +79,37 @@ pub fn put_line(out: &mut [u8], at: usize, letter: u8, numbers: &[u64]) -> usize
     }
     out[next] = b'\n';
     next + 1
+}
+
+// How many bytes the lines of these numbers have, so many numbers to a line, whatever their letter.
+pub fn rows_length(numbers: &[u64], fields: usize) -> usize
+    requires { ⌜ (1 ≤ fields) × (length (now numbers) ≤ mostNumbers) ⌝ }
+    ensures { λ r. ⌜ ((letter : ℕ) → r ≡ length (rowLines letter fields (now (numbers .entry)))) ⌝ }
+{
+    let mut bytes: usize = 0;
+    let mut counted = 0;
+    while fields <= numbers.len() - counted {
+        let end = counted + fields;
+        bytes += line_length(&numbers[counted..end]);
+        counted = end;
+    }
+    bytes
+}
+
+// Writes lines of one letter at a place, so many numbers to a line, and hands back the place behind them.
+pub fn put_rows(out: &mut [u8], at: usize, letter: u8, numbers: &[u64], fields: usize) -> usize
+    requires { ⌜ (1 ≤ fields) × (at + length (rowLines letter fields (now numbers)) ≤ length (now out)) ⌝ }
+    ensures { λ r. ⌜
+        (r ≡ at + length (rowLines letter fields (now (numbers .entry))))
+        × (now (out .exit) ≡ put (now (out .entry)) at (rowLines letter fields (now (numbers .entry))))
+        ⌝ }
+{
+    let mut next = at;
+    let mut written = 0;
+    while fields <= numbers.len() - written {
+        let end = written + fields;
+        next = put_line(out, next, letter, &numbers[written..end]);
+        written = end;
+    }
+    next
 }

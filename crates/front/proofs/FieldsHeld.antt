@@ -16,10 +16,10 @@ use Rattle.rules.specs.TableText.{isLetter, isNumber, lineFeed, linesOf, number
 use Rattle.rules.specs.declared.Field.{Field}
 use Rattle.rules.specs.declared.Refusal.{Refusal}
 use Rattle.text.proofs.FieldPlaces.{field-behind, field-taken, letter-behind, letter-taken, other-end-refused, unended-last-refused}
-use Rattle.text.specs.FieldPlaces.{fieldAnswer, fieldAt, fieldsAt, letterOf, placeAt, placeBehind}
+use Rattle.text.specs.FieldPlaces.{fieldAnswer, fieldAt, fieldsAt, lineLetter, placeAt, placeBehind}
 use Rattle.text.specs.Fields.{FieldsTold, behindByte, front, letterAt, mostLine, numberAt, refusedField, standsAt, takenSays}
 use Rattle.text.specs.declared.Cursor.{Cursor}
-use Rattle.text.specs.declared.Taken.{Taken}
+use Rattle.text.specs.declared.FieldTaken.{FieldTaken}
 use Rattle.front.specs.Reading.{Moved, Next, Started, Took, readerAt, takenAt, takenBy}
 use Rattle.front.specs.Walked.{kindAt, otherKindAt}
 use Rattle.front.specs.declared.Kind.{Kind}
@@ -78,14 +78,14 @@ module _ {text : RefT (List ℕ)} {reader : Reader} (l : ℕ) (some-line : 1 ≤
       }
 
     module _ (started : Started text (placeAt (now text) l 0) reader) where
-      pub next-answers-the-letter : {r : Field} → Next reader Kind.Letter r → fieldSays r ≡ fieldAnswer l (letterOf (now text) l)
+      pub next-answers-the-letter : {r : Field} → Next reader Kind.Letter r → fieldSays r ≡ fieldAnswer l (lineLetter (now text) l)
       unfolding takenAt
       next-answers-the-letter n =
           n .field
           ∙ ap (λ (r : Reader). takenBy r Kind.Letter .says) (started .reader)
           ∙ letter-taken (now text) l some-line ended
 
-      pub moved-behind-the-letter : {r : Reader} (b : ℕ) → Moved reader Kind.Letter r → letterOf (now text) l ≡ some b
+      pub moved-behind-the-letter : {r : Reader} (b : ℕ) → Moved reader Kind.Letter r → lineLetter (now text) l ≡ some b
           → Started text (placeAt (now text) l 1) r
       unfolding takenAt
       moved-behind-the-letter b m e = record {
@@ -107,15 +107,15 @@ module _ {text : RefT (List ℕ)} {reader : Reader} (l : ℕ) (some-line : 1 ≤
 
 -- The same of `take`.
 module _ (text : List ℕ) (l : ℕ) (some-line : 1 ≤ l) (ended : l < length (linesOf text)) where
-  pub take-answers-the-field : (k : ℕ) → k < length (fieldsAt text l) → {r : Taken} → Took text (placeAt text l k) (kindAt text l k) r
+  pub take-answers-the-field : (k : ℕ) → k < length (fieldsAt text l) → {r : FieldTaken} → Took text (placeAt text l k) (kindAt text l k) r
       → fieldSays (r .field) ≡ fieldAnswer l (numberIn (fieldAt text l k))
   take-answers-the-field k there took =
       ap (λ (told : FieldsTold). told .says)
       (took .told ∙ taken-number (ltb (suc k) (length (fieldsAt text l))) text (placeAt text l k))
       ∙ field-taken text l some-line ended k there
 
-  pub take-answers-the-letter : {r : Taken} → Took text (placeAt text l 0) Kind.Letter r
-      → fieldSays (r .field) ≡ fieldAnswer l (letterOf text l)
+  pub take-answers-the-letter : {r : FieldTaken} → Took text (placeAt text l 0) Kind.Letter r
+      → fieldSays (r .field) ≡ fieldAnswer l (lineLetter text l)
   unfolding takenAt
   take-answers-the-letter took = ap (λ (told : FieldsTold). told .says) (took .told) ∙ letter-taken text l some-line ended
 
@@ -154,7 +154,7 @@ module _ (reader : Reader) (kind : Kind) (r : Field) (n : Next reader kind r) (r
   pub moved-refused : (s : Reader) → Moved reader kind s → s ≡ reader
   moved-refused s m = m .reader-behind ∙ ap (λ (f : FieldsTold). readerAt (reader .text) (f .next)) told
 
-pub take-refused : (text : List ℕ) (at : Cursor) (kind : Kind) (r : Taken) → Took text at kind r
+pub take-refused : (text : List ℕ) (at : Cursor) (kind : Kind) (r : FieldTaken) → Took text at kind r
     → ¬ (fieldSays (r .field) .number ≡ 0) → takenSays r ≡ refusedField at
 take-refused text at kind r promise refused =
     promise .told

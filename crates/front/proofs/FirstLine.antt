@@ -1,7 +1,7 @@
 -- The first line of a text, judged after nothing: what is accepted there is a T, so an accepted line 1 tells the clock and
 -- the budget and any other is the rules' refusal of line 1; and the letter and the two numbers that the reader takes of a T line
 -- are what its item is made of. Assumes nothing.
-use mathlib.Core.Bool.{true, false, false≢true}
+use mathlib.Core.Bool.{false≢true}
 use mathlib.Core.List.{List, [], _∷_}
 use mathlib.Core.Option.{Option, none, some}
 use mathlib.Core.Path.{_≡_, refl, sym, ap, _∙_}
@@ -9,27 +9,25 @@ use Prim.Native.Nat.{ℕ, _<_}
 use native.Mathlib.Omega.{arith}
 use lib.ListN.{length, replicate}
 use Rattle.columns.proofs.Stored.{nothing-filled}
-use Rattle.laws.proofs.LineNumbers.{others-have-two}
-use Rattle.laws.proofs.Lines.{items}
-use Rattle.laws.proofs.Stopped.{accepted-exactly}
-use Rattle.laws.specs.FirstLine.{firstItem}
+use Rattle.grammar.proofs.Lines.{items}
+use Rattle.grammar.proofs.Stopped.{accepted-exactly}
+use Rattle.grammar.specs.FirstLine.{firstItem}
 use Rattle.lines.proofs.Judged.{clock-judged}
 use Rattle.lines.specs.Step.{LineAccepted, Noted, judgedAs}
 use Rattle.records.specs.Faults.{clockFault}
 use Rattle.records.specs.Standing.{noneStanding}
-use Rattle.rules.specs.Answers.{good}
 use Rattle.rules.specs.Lists.{no-element}
-use Rattle.rules.specs.Refusals.{Before, Item, accept, accepted, added, bad, faultOf, itemsIn, judged, mayStand, nothing, one}
-use Rattle.rules.specs.TableText.{Record, Records, letterT, lineFeed, linesOf, mostJobs, noRecords, partedBy, recordOf, tab}
+use Rattle.rules.specs.Refusals.{Before, Item, accept, acceptUpTo, accepted, added, bad, faultOf, itemsIn, judged, mayStand, nothing, one}
+use Rattle.rules.specs.TableText.{Record, Records, letterT, linesOf, mostJobs, partedBy, fieldCount, letterRecord}
 use Rattle.rules.specs.declared.Field.{Field}
 use Rattle.rules.specs.declared.Refusal.{Refusal}
-use Rattle.text.proofs.Records.{letter-line-read, no-letter-read}
-use Rattle.text.proofs.Told.{both-numbers, refused-field, second-refused}
-use Rattle.text.specs.Fields.{FieldsTold, bothTold, numberAt, refusedField, takenSays, twoNumbersAt}
-use Rattle.text.specs.Lines.{LineRead, Row, itemOf, lineWith, pairsAt, refusedLine, refusedLineOr}
+use Rattle.text.proofs.Records.{no-letter-read, no-row-read, row-made-read}
+use Rattle.text.proofs.Told.{rowWith, last-one, no-last, no-more, nothing-taken, one-more}
+use Rattle.text.specs.Fields.{FieldsTold, refusedField, rowAt, takenSays}
+use Rattle.text.specs.Lines.{LineRead, itemOf, refusedLine, refusedLineOr}
 use Rattle.text.specs.declared.Line.{Line}
 use Rattle.text.specs.declared.Parsed.{Parsed}
-use Rattle.text.specs.declared.Taken.{Taken}
+use Rattle.text.specs.declared.FieldTaken.{FieldTaken}
 use Rattle.front.specs.ClockLine.{clockLineSays, firstLine, firstOf, lineOneSays}
 use Rattle.front.specs.Reading.{firstPlace, takenAt}
 use Rattle.front.specs.declared.ClockLine.{ClockLine}
@@ -37,7 +35,7 @@ use Rattle.front.specs.declared.Kind.{Kind}
 
 -- before line 1 nothing is noted
 pub nothing-noted : Noted nothing noneStanding (replicate mostJobs 0) (replicate mostJobs 0)
-unfolding nothing noRecords
+unfolding nothing
 nothing-noted = record {
   state = refl;
   rising = no-element;
@@ -52,7 +50,7 @@ pub record ClockAlone (r : Records) : Type 0 where
   pub no-hold : r .holds ≡ []
 
 clock-alone : (i : Item) (next : Before) → accept nothing i ≡ accepted next → ClockAlone (next .records)
-unfolding accept nothing noRecords added mayStand
+unfolding acceptUpTo nothing added mayStand
 clock-alone (bad why) next e = let z : _≡_ {A = ℕ} 0 1 = cc in absurd (omega arith)
 clock-alone (one (Record.T clock budget)) next e =
     rw (accepted-exactly nothing (Record.T clock budget) next .0 e .1) (record { no-speed = refl; no-job = refl; no-hold = refl })
@@ -70,7 +68,7 @@ lineOne (Parsed.Hold h) = ClockLine.Refused Refusal.Order 1
 
 says-line-one : (i : Item) (p : Parsed) → judgedAs nothing p ≡ accept nothing i → refusedLineOr 1 p ≡ 1
     → clockLineSays (lineOne p) ≡ lineOneSays (accept nothing i)
-unfolding judgedAs lineOneSays added nothing noRecords refusedLineOr
+unfolding judgedAs lineOneSays added nothing refusedLineOr
 says-line-one i (Parsed.Clock clock budget) e line = rw (← e)
 says-line-one i (Parsed.Refused why at) e line = rw (← e, line)
 says-line-one i (Parsed.Speed f) e line =
@@ -98,54 +96,48 @@ module _ (text : List ℕ) (some-byte : 0 < length text) where
   line-one-item l line = rw (items text some-byte) (ap (λ i. lineOneSays (accept nothing i)) (line .item))
 
   -- without a letter the line has no shape
-  pub no-letter-one : (letter : Taken) (why : Refusal) (line : ℕ) → takenSays letter ≡ takenAt text firstPlace Kind.Letter
+  pub no-letter-one : (letter : FieldTaken) (why : Refusal) (line : ℕ) → takenSays letter ≡ takenAt text firstPlace Kind.Letter
       → letter .field ≡ Field.Refused why line → clockLineSays (ClockLine.Refused Refusal.Shape 1) ≡ firstLine text
-  unfolding takenAt itemOf accept lineOneSays
+  unfolding takenAt itemOf acceptUpTo lineOneSays
   no-letter-one letter why line e f =
       line-one-item (refusedLine firstPlace) (no-letter-read text firstPlace letter e why line f)
 
-  module _ (letter clock : Taken) (e : takenSays letter ≡ takenAt text firstPlace Kind.Letter)
+  module _ (letter clock : FieldTaken) (e : takenSays letter ≡ takenAt text firstPlace Kind.Letter)
       (f : letter .field ≡ Field.Number letterT) (d : takenSays clock ≡ takenAt text (letter .next) Kind.Number) where
-    -- the line of a T and its row of two numbers
-    row-of-two : (row : Option Row) → pairsAt 0 text (letter .next) ≡ row → LineRead text firstPlace (lineWith firstPlace letterT row)
-    unfolding takenAt
-    row-of-two row g =
-        rw (← g) (letter-line-read text firstPlace letter e letterT f 0 (others-have-two letterT _ refl))
+    -- the row of a T's two numbers, by what it says
+    abbrev row : FieldsTold
+    row = rowAt 2 text (letter .next)
 
-    no-row : pairsAt 0 text (letter .next) ≡ none → clockLineSays (ClockLine.Refused Refusal.Shape 1) ≡ firstLine text
-    unfolding lineWith itemOf accept lineOneSays
-    no-row g = line-one-item (refusedLine firstPlace) (row-of-two none g)
+    begins : row ≡ rowWith (letter .next) [] row
+    begins = nothing-taken 2 text (letter .next)
+
+    no-row : refusedField (letter .next) ≡ row → clockLineSays (ClockLine.Refused Refusal.Shape 1) ≡ firstLine text
+    unfolding takenAt fieldCount itemOf acceptUpTo lineOneSays
+    no-row g = line-one-item (refusedLine firstPlace) (no-row-read text firstPlace letter e letterT f (rw (← g)))
 
     pub no-clock-one : (why : Refusal) (line : ℕ) → clock .field ≡ Field.Refused why line
         → clockLineSays (ClockLine.Refused Refusal.Shape 1) ≡ firstLine text
-    unfolding pairsAt twoNumbersAt takenAt
-    no-clock-one why line g = no-row (rw (refused-field clock (numberAt text (letter .next) tab) why line d g))
+    unfolding takenAt
+    no-clock-one why line g = no-row (no-more (letter .next) [] text (letter .next) clock d 0 why line g ∙ sym begins)
 
-    module _ (budget : Taken) (n : ℕ) (number : clock .field ≡ Field.Number n)
+    module _ (budget : FieldTaken) (n : ℕ) (number : clock .field ≡ Field.Number n)
         (b : takenSays budget ≡ takenAt text (clock .next) Kind.Last) where
-      abbrev two : FieldsTold
-      two = bothTold (letter .next) (numberAt text (letter .next) tab) (numberAt text (numberAt text (letter .next) tab .next) lineFeed)
-
-      two-told : (told : FieldsTold) → told ≡ two → twoNumbersAt text (letter .next) lineFeed ≡ told
-      unfolding twoNumbersAt
-      two-told told same = sym same
+      clock-taken : row ≡ rowWith (letter .next) (n ∷ []) (rowAt 1 text (clock .next))
+      unfolding takenAt
+      clock-taken = begins ∙ one-more (letter .next) [] text (letter .next) clock d 0 n number
 
       pub no-budget-one : (why : Refusal) (line : ℕ) → budget .field ≡ Field.Refused why line
           → clockLineSays (ClockLine.Refused Refusal.Shape 1) ≡ firstLine text
-      unfolding pairsAt takenAt
-      no-budget-one why line g =
-          no-row
-          (rw (two-told (refusedField (letter .next))
-          (second-refused (letter .next) (numberAt text (letter .next) tab) (λ next. numberAt text next lineFeed) clock budget n d b number why line g)))
+      unfolding takenAt
+      no-budget-one why line g = no-row (no-last (letter .next) (n ∷ []) text (clock .next) budget b why line g ∙ sym clock-taken)
 
       pub both-numbers-one : (m : ℕ) → budget .field ≡ Field.Number m
           → lineOneSays (accept nothing (one (Record.T n m))) ≡ firstLine text
-      unfolding pairsAt takenAt lineWith recordOf itemOf
+      unfolding takenAt fieldCount letterRecord itemOf
       both-numbers-one m g =
           line-one-item _
-          (row-of-two (some (record { numbers = n ∷ (m ∷ []); next = budget .next }))
-          (rw (two-told (record { says = good (n ∷ (m ∷ [])); next = budget .next })
-          (both-numbers (letter .next) (numberAt text (letter .next) tab) (λ next. numberAt text next lineFeed) clock budget n d b number m g))))
+          (row-made-read text firstPlace letter e letterT f (n ∷ m ∷ []) [] (budget .next)
+          (last-one (letter .next) (n ∷ []) text (clock .next) budget b m g ∙ sym clock-taken))
 
 -- The numbers of a T line, judged after nothing.
 module _ (clock budget : ℕ) (o : Option Refusal) (fault : o ≡ clockFault noneStanding clock budget) where
@@ -153,10 +145,10 @@ module _ (clock budget : ℕ) (o : Option Refusal) (fault : o ≡ clockFault non
   judged-one = clock-judged nothing noneStanding (replicate mostJobs 0) (replicate mostJobs 0) nothing-noted clock budget fault
 
   pub good-clock : o ≡ none → clockLineSays (ClockLine.Clock clock budget) ≡ lineOneSays (accept nothing (one (Record.T clock budget)))
-  unfolding accept judged lineOneSays added nothing noRecords
+  unfolding acceptUpTo judged lineOneSays added nothing
   good-clock e = rw (sym judged-one ∙ e)
 
   pub bad-clock : (why : Refusal) → o ≡ some why
       → clockLineSays (ClockLine.Refused why 1) ≡ lineOneSays (accept nothing (one (Record.T clock budget)))
-  unfolding accept judged lineOneSays
+  unfolding acceptUpTo judged lineOneSays
   bad-clock why e = rw (sym judged-one ∙ e)

@@ -11,18 +11,18 @@ use denote.Ref.{RefT, now}
 use lib.Dec.{eqb, ltb}
 use lib.ListN.{length, drop, getD, take, length-take, take-append-drop}
 use Rattle.laws.proofs.Choices.{neither}
-use Rattle.laws.proofs.Decimal.{digits-without}
+use Rattle.grammar.proofs.Decimal.{digits-without}
 use Rattle.laws.proofs.Lookups.{length-keep}
 use Rattle.laws.proofs.Tests.{both-true}
 use Rattle.rules.specs.Answers.{good}
 use Rattle.rules.specs.Lists.{Each, all, keep, none-left, _and_}
-use Rattle.rules.specs.TableText.{isDigit, isLetter, isNumber, lineFeed, tab, valueFrom}
+use Rattle.rules.specs.TableText.{fieldCount, isDigit, isLetter, isNumber, lineFeed, tab, valueFrom}
 use Rattle.text.proofs.Numbers.{front-digits}
 use Rattle.text.proofs.Records.{before-tab}
 use Rattle.text.proofs.Rows.{digits-stand, stands}
 use Rattle.text.specs.Fields.{FieldsTold, behindByte, front, letterAt, lineBehind, mostLine, numberAt, refusedField, standsAt}
 use Rattle.text.specs.declared.Cursor.{Cursor}
-use Rattle.text.specs.declared.Taken.{Taken}
+use Rattle.text.specs.declared.FieldTaken.{FieldTaken}
 use Rattle.front.specs.Reading.{Started, Took, firstPlace, takenAt}
 use Rattle.front.specs.Walked.{LineCounted, ReaderTakes, lineFeeds, walkedFrom}
 use Rattle.front.specs.declared.Kind.{Kind}
@@ -71,7 +71,7 @@ some-digit [] h = absurd (false≢true h)
 some-digit (d ∷ ds) h = omega arith
 
 letter-no-feed : (b : ℕ) → isLetter b ≡ true → lineFeeds (b ∷ []) ≡ 0
-unfolding isLetter
+unfolding fieldCount isLetter
 letter-no-feed b h = rw (ne-eqb b lineFeed (λ e. false≢true (rw e at h)))
 
 line-by-tests : (t c : Bool) (line feeds more : ℕ) → c ≡ true → line ≡ feeds + 1 → more ≡ feeds + cond t 1 0
@@ -157,7 +157,7 @@ walked-lines-counted {text} {kinds} few started takes =
     rw (reader-as-cursor started takes) (walk-counted (now text) few firstPlace (start-counted (now text)) kinds)
 
 -- The same of `take`: from a place whose line is counted to one whose line is.
-pub take-counted : (text : List ℕ) → length text ≤ mostLine → (at : Cursor) → LineCounted text at → (kind : Kind) {r : Taken}
+pub take-counted : (text : List ℕ) → length text ≤ mostLine → (at : Cursor) → LineCounted text at → (kind : Kind) {r : FieldTaken}
     → Took text at kind r → LineCounted text (r .next)
 take-counted text few at counted kind took =
     rw (ap (λ (told : FieldsTold). told .next) (took .told)) (field-counted text few at counted kind)

@@ -17,7 +17,7 @@ use Rattle.laws.proofs.Unique.{field-unique}
 use Rattle.rules.specs.declared.Field.{Field}
 use Rattle.text.specs.Fields.{FieldsTold}
 use Rattle.text.specs.declared.Cursor.{Cursor}
-use Rattle.text.specs.declared.Taken.{Taken}
+use Rattle.text.specs.declared.FieldTaken.{FieldTaken}
 use Rattle.front.specs.Reading.{Moved, Next, Placed, Started, Took}
 use Rattle.front.specs.declared.ClockLine.{ClockLine}
 use Rattle.front.specs.declared.Kind.{Kind}
@@ -48,7 +48,7 @@ module _ {M : Type 1} (𝓤 : URA M) (H : Heap 𝓤) (A : Atoms 𝓤) (mem : Mem
       → place.clauses 𝓤 H A mem run κs (reader, tt) .ensures tt r (reader, tt) ≡ fact 𝓤 (Placed reader r)
   place-says reader r = refl
 
-  pub take-says : (text : RefT (List ℕ)) (at : Cursor) (kind : Kind) (r : Taken)
+  pub take-says : (text : RefT (List ℕ)) (at : Cursor) (kind : Kind) (r : FieldTaken)
       → take.clauses 𝓤 H A mem run κs (text, (at, (kind, tt))) .ensures tt r (text, (at, (kind, tt)))
       ≡ fact 𝓤 (Took (now text) at kind r)
   take-says text at kind r = refl
@@ -65,14 +65,14 @@ moved-unique reader kind r s p q = p .reader-behind ∙ sym (q .reader-behind)
 pub place-unique : (reader : Reader) (r s : Cursor) → Placed reader r → Placed reader s → r ≡ s
 place-unique reader r s p q = p .place ∙ sym (q .place)
 
-pub take-unique : (text : List ℕ) (at : Cursor) (kind : Kind) (r s : Taken)
+pub take-unique : (text : List ℕ) (at : Cursor) (kind : Kind) (r s : FieldTaken)
     → Took text at kind r → Took text at kind s → r ≡ s
 take-unique text at kind r s p q =
     let same = p .told ∙ sym (q .told) in
     known-by-parts r s (field-unique (r .field) (s .field) (ap (λ (told : FieldsTold). told .says) same))
     (ap (λ (told : FieldsTold). told .next) same)
   where
-    known-by-parts : (r s : Taken) → r .field ≡ s .field → r .next ≡ s .next → r ≡ s
+    known-by-parts : (r s : FieldTaken) → r .field ≡ s .field → r .next ≡ s .next → r ≡ s
     known-by-parts r s e f = rw (e, f)
 
 -- what the promise of `clock_and_budget` tells a caller of an answer r

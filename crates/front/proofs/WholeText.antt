@@ -7,12 +7,12 @@ use mathlib.Core.Path.{_≡_, sym, ap, _∙_}
 use Prim.Native.Nat.{ℕ, _+_}
 use native.Mathlib.Omega.{arith}
 use lib.ListN.{getD}
-use Rattle.laws.proofs.Accepted.{taken-exactly, valid-reached}
-use Rattle.laws.proofs.Stopped.{Reached, Stopped, accepted-exactly, after, at-item, at-items-end, at-once, refused-where-stopped}
+use Rattle.grammar.proofs.Accepted.{taken-exactly, valid-reached}
+use Rattle.grammar.proofs.Stopped.{Reached, Stopped, accepted-exactly, after, at-item, at-items-end, at-once, refused-where-stopped}
 use Rattle.laws.proofs.Unique.{refusal-not-0, refusal-unique}
 use Rattle.rules.specs.Answers.{Answer, good, refused}
-use Rattle.rules.specs.Refusals.{Before, Item, Judged, Taken, accept, accepted, added, andThen, atEnd, itemsIn, nothing, one, read, refusedAt, refusedFor, takeFrom, taken}
-use Rattle.rules.specs.TableText.{Record, Records, lined, linesOf, noRecords}
+use Rattle.rules.specs.Refusals.{Before, Item, Judged, Taken, accept, accepted, added, andThen, atEnd, itemsIn, nothing, one, read, readUpTo, refusedAt, refusedFor, takeFrom, takeFromUpTo, taken}
+use Rattle.rules.specs.TableText.{Record, Records, lined, linesOf}
 use Rattle.rules.specs.Valid.{Valid}
 use Rattle.rules.specs.declared.Refusal.{Refusal}
 use Rattle.front.specs.ClockLine.{clockLineSays, firstLine, firstOf, lineOneSays}
@@ -36,14 +36,14 @@ first-accepted : {b last : Before} {i : Item} {is : List Item} → Reached b (i 
 first-accepted (after {next} e reached) = (next, e)
 
 line-one-of-table : (r : Records) → Valid r → firstOf (map one (lined r)) ≡ good (r .clock ∷ r .budget ∷ [])
-unfolding firstOf lined lineOneSays added nothing noRecords
+unfolding firstOf lined lineOneSays added nothing
 line-one-of-table r v =
     let (next, e) = first-accepted (valid-reached r v) in
     rw (e, accepted-exactly nothing (Record.T (r .clock) (r .budget)) next .0 e .1)
 
 -- A text that is read as a table: line 1 tells its clock and its budget.
 pub clock-of-table : (text : List ℕ) (r : Records) → read text ≡ taken r → firstLine text ≡ good (r .clock ∷ r .budget ∷ [])
-unfolding read firstLine
+unfolding readUpTo firstLine
 clock-of-table text r e =
     let (v, lines) = taken-exactly 1 (itemsIn (linesOf text)) r .0 e in
     ap firstOf lines ∙ line-one-of-table r v
@@ -59,7 +59,7 @@ refused-judged (refusedFor other) why line more e =
 
 refused-items : (is : List Item) (why : Refusal) (line : ℕ) → firstOf is ≡ refused why line []
     → (line ≡ 1) × (takeFrom 1 nothing is ≡ refusedAt why 1)
-unfolding firstOf takeFrom atEnd nothing noRecords
+unfolding firstOf takeFromUpTo atEnd nothing
 refused-items [] why line e =
     let same = refusal-unique Refusal.Order why (ap (λ (a : Answer). a .number) e) in
     (sym (ap (λ (a : Answer). a .line) e), ap (λ w. refusedAt w 1) same)
@@ -75,7 +75,7 @@ stopped-items (i ∷ is) why (at-items-end last reached no-speed is-order stands
 -- Line 1 is refused exactly where the whole text is refused at line 1, with the same number.
 pub refused-at-line-one : (text : List ℕ) (why : Refusal)
     → (firstLine text ≡ refused why 1 []) ↔ (read text ≡ refusedAt why 1)
-unfolding read firstLine
+unfolding readUpTo firstLine
 refused-at-line-one text why = (
   λ e. refused-items (itemsIn (linesOf text)) why 1 e .1,
   λ e. stopped-items (itemsIn (linesOf text)) why (refused-where-stopped 1 nothing (itemsIn (linesOf text)) why 1 .0 e),
@@ -90,7 +90,7 @@ module _ (text : List ℕ) where
 
   pub answer-refused : (why : Refusal) (line : ℕ) → clockLineSays (ClockLine.Refused why line) ≡ firstLine text
       → (line ≡ 1) × (read text ≡ refusedAt why 1)
-  unfolding read firstLine
+  unfolding readUpTo firstLine
   answer-refused why line promised = refused-items (itemsIn (linesOf text)) why line (sym promised)
 
   pub answer-of-refused : (why : Refusal) (a : ClockLine) → clockLineSays a ≡ firstLine text → read text ≡ refusedAt why 1

@@ -9,7 +9,7 @@ use Rattle.rules.specs.TableText.{lineFeed, tab}
 use Rattle.rules.specs.declared.Field.{Field}
 use Rattle.text.specs.Fields.{FieldsTold, letterAt, numberAt, takenSays}
 use Rattle.text.specs.declared.Cursor.{Cursor}
-use Rattle.text.specs.declared.Taken.{Taken}
+use Rattle.text.specs.declared.FieldTaken.{FieldTaken}
 use Rattle.front.specs.declared.Kind.{Kind}
 use Rattle.front.specs.declared.Reader.{Reader}
 
@@ -48,5 +48,5 @@ pub record Placed (reader : Reader) (r : Cursor) : Type 0 where
   pub place : r ≡ reader .place
 
 -- a field that is taken of a text at a place: what `next` answers there, and where the moved reader stands
-pub record Took (text : List ℕ) (place : Cursor) (kind : Kind) (r : Taken) : Type 0 where
+pub record Took (text : List ℕ) (place : Cursor) (kind : Kind) (r : FieldTaken) : Type 0 where
   pub told : takenSays r ≡ takenAt text place kind

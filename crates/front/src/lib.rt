@@ -6,9 +6,9 @@ use rules::Field;
 use rules::MOST_JOBS;
 use rules::Refusal;
 use text::Cursor;
+use text::FieldTaken;
 use text::LETTER_T;
 use text::Parsed;
-use text::Taken;
 ghost use mathlib.Core.Path.{_≡_};
 ghost use Prim.Native.Nat.{_<_};
 ghost use Rattle.front.specs.ClockLine.{clockLineSays, firstLine, lineOneSays};
@@ -38,7 +38,7 @@ pub enum ClockLine {
 }
 
 // The field of a kind that stands at a place, and the place behind it.
-fn taken_at(text: &[u8], place: Cursor, kind: Kind) -> Taken
+fn taken_at(text: &[u8], place: Cursor, kind: Kind) -> FieldTaken
     ensures { λ r. ⌜ takenSays r ≡ takenAt (now (text .entry)) place kind ⌝ }
 {
     match kind {
@@ -96,11 +96,11 @@ pub fn place<'a>(reader: Reader<'a>) -> Cursor
 }
 
 // The field of a kind that stands at a place, and the place behind it: a reader is made there, asked and moved on.
-pub fn take(text: &[u8], from: Cursor, kind: Kind) -> Taken
+pub fn take(text: &[u8], from: Cursor, kind: Kind) -> FieldTaken
     ensures { λ r. ⌜ Took (now (text .entry)) from kind r ⌝ }
 {
     let reader = start(text, from);
-    Taken {
+    FieldTaken {
         field: next(reader, kind),
         next: place(moved(reader, kind)),
     }

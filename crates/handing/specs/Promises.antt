@@ -8,10 +8,10 @@ use Rattle.rules.specs.TableText.{nth}
 use Rattle.rules.specs.declared.Decision.{Decision}
 
 -- How many jobs a decision plans: the first of the values that it says, 0 where it is a refusal.
-abbrev pub countOf : Decision → ℕ
-countOf d = nth (decisionSays d .values) 0
+abbrev pub plannedCount : Decision → ℕ
+plannedCount d = nth (decisionSays d .values) 0
 
 -- The part holds the first count places of the buffer, or all of a shorter one, and begins where the buffer begins.
 pub record HandedBack (order : List ℕ) (begin : ℕ × ℕ) (d : Decision) (part : List ℕ) (at : ℕ × ℕ) : Type 0 where
-  pub part-is : part ≡ take (countOf d) order
+  pub part-is : part ≡ take (plannedCount d) order
   pub begins : at ≡ begin

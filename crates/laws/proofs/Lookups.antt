@@ -9,7 +9,7 @@ use native.Mathlib.Omega.{arith}
 use lib.ListN.{length}
 use Rattle.laws.proofs.Choices.{neither, nothing-there, one-there, or-swap, split}
 use Rattle.laws.proofs.Tests.{both-true}
-use Rattle.rules.specs.Lists.{Each, all, any, find, keep, none-left, place, sorted, total, _and_}
+use Rattle.rules.specs.Lists.{Each, all, any, find, keep, none-left, putIn, sorted, total, _and_}
 
 module _ {A : Type 0} where
   pub each-both : {P Q R : A → Type 0} {xs : List A} → ((x : A) → P x → Q x → R x) → Each P xs → Each Q xs → Each R xs
@@ -175,23 +175,23 @@ module _ {A : Type 0} where
 
   -- x put in its place stands in the list beside the others
   pub each-place : {P : A → Type 0} (before : A → A → Bool) (x : A) {ys : List A} → P x → Each P ys
-      → Each P (place before x ys)
+      → Each P (putIn before x ys)
   each-place before x h none-left = h and none-left
   each-place before x {ys = y ∷ ys} h (p and ps) =
       split (before x y) (λ b. rw b (h and (p and ps))) (λ b. rw b (p and each-place before x h ps))
 
-  pub each-placed : {P : A → Type 0} (before : A → A → Bool) (x : A) (ys : List A) → Each P (place before x ys)
+  pub each-placed : {P : A → Type 0} (before : A → A → Bool) (x : A) (ys : List A) → Each P (putIn before x ys)
       → P x × Each P ys
   each-placed before x [] (p and none-left) = (p, none-left)
   each-placed {P} before x (y ∷ ys) e =
       split (before x y)
       (λ b. let both : Each P (x ∷ y ∷ ys) = rw b at e in (each-first both, each-rest both))
-      (λ b. let both : Each P (y ∷ place before x ys) = rw b at e in
+      (λ b. let both : Each P (y ∷ putIn before x ys) = rw b at e in
       let more = each-placed before x ys (each-rest both) in
       (more .0, each-first both and more .1))
 
   pub any-place : (p : A → Bool) (before : A → A → Bool) (x : A) (ys : List A)
-      → any p (place before x ys) ≡ p x || any p ys
+      → any p (putIn before x ys) ≡ p x || any p ys
   any-place p before x [] = refl
   any-place p before x (y ∷ ys) =
       split (before x y) (λ b. rw b) (λ b. rw b (rw (any-place p before x ys) (or-swap (p y) (p x) (any p ys))))

@@ -12,7 +12,7 @@ use Rattle.laws.specs.Pairs.{Distinct, Pairwise, among, no-pair, _then_}
 use Rattle.laws.proofs.Choices.{split}
 use Rattle.laws.proofs.Elements.{each-map, each-too}
 use Rattle.laws.proofs.Lookups.{each-both, each-keep, each-place}
-use Rattle.rules.specs.Lists.{Each, Rising, keep, no-element, none-left, one-element, place, _and_, _below_}
+use Rattle.rules.specs.Lists.{Each, Rising, keep, no-element, none-left, one-element, putIn, _and_, _below_}
 
 module _ {A : Type 0} where
   pub pairs-too : {P : A → Type 0} {R S : A → A → Type 0} {xs : List A} → ((x y : A) → P x → P y → R x y → S x y)
@@ -32,7 +32,7 @@ module _ {A : Type 0} where
       → ((y z : A) → R y z → before x y ≡ true → before x z ≡ true)
       → {ys : List A} → Pairwise R ys → Each (λ y. before x y ≡ false → R y x) ys
       → Each (λ y. before x y ≡ true → R x y) ys
-      → Pairwise R (place before x ys)
+      → Pairwise R (putIn before x ys)
   pairs-place before x on no-pair none-left none-left = none-left then no-pair
   pairs-place before x on {ys = y ∷ ys} (r then rs) (a and more) (b and bs) =
       split (before x y)
@@ -42,7 +42,7 @@ module _ {A : Type 0} where
   -- where R holds both ways, x may stand anywhere
   pub pairs-place-apart : {R : A → A → Type 0} → ((x y : A) → R x y → R y x)
       → (before : A → A → Bool) (x : A) {ys : List A}
-      → Each (R x) ys → Pairwise R ys → Pairwise R (place before x ys)
+      → Each (R x) ys → Pairwise R ys → Pairwise R (putIn before x ys)
   pairs-place-apart back before x none-left no-pair = none-left then no-pair
   pairs-place-apart back before x {ys = y ∷ ys} (a and more) (r then rs) =
       split (before x y)

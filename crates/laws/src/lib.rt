@@ -1,1 +1,1 @@
-// What follows from the rules, as theorems in proofs/: the crates that carry the rules out cite them. There is no code here.
+// Laws of lists, tests and answers, and of the two leaves: what every other law stands on. There is no code here.

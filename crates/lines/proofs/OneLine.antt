@@ -6,7 +6,7 @@ use mathlib.Core.Option.{none, some}
 use mathlib.Core.Path.{_≡_, refl, sym}
 use Prim.Native.Nat.{ℕ}
 use native.Mathlib.Omega.{arith}
-use Rattle.rules.specs.Refusals.{Before, Item, accept, bad, judged, one, refusedFor}
+use Rattle.rules.specs.Refusals.{Before, Item, accept, acceptUpTo, bad, judged, one, refusedFor}
 use Rattle.rules.specs.declared.Refusal.{Refusal}
 use Rattle.text.specs.Lines.{LineRead, isRefused, itemOf, refusedLineOr}
 use Rattle.text.specs.declared.Cursor.{Cursor}
@@ -16,7 +16,7 @@ use Rattle.lines.specs.Step.{LineAccepted, faultIn, judgedAs}
 
 -- without a fault
 accepted-good : (b : Before) (p : Parsed) → faultIn b (itemOf p) ≡ none → judgedAs b p ≡ accept b (itemOf p)
-unfolding accept judged itemOf judgedAs
+unfolding acceptUpTo judged itemOf judgedAs
 accepted-good b (Parsed.Clock clock budget) e = rw e
 accepted-good b (Parsed.Speed f) e = rw e
 accepted-good b (Parsed.Job j) e = rw e
@@ -25,7 +25,7 @@ accepted-good b (Parsed.Refused why line) e = let z : _≡_ {A = ℕ} 0 1 = cc i
 
 -- with one
 accepted-bad : (b : Before) (i : Item) (why : Refusal) → faultIn b i ≡ some why → refusedFor why ≡ accept b i
-unfolding accept judged
+unfolding acceptUpTo judged
 accepted-bad b (one r) why e = rw e
 accepted-bad b (bad other) why e = cc
 

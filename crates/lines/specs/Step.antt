@@ -6,11 +6,11 @@ use mathlib.Core.Option.{Option, some}
 use Prim.Native.Nat.{ℕ, _≤_}
 use lib.ListN.{length, drop}
 use Rattle.columns.specs.Columns.{Column}
-use Rattle.laws.specs.FirstLine.{firstItem, restOf}
+use Rattle.grammar.specs.FirstLine.{firstItem, restOf}
 use Rattle.records.specs.Standing.{afterClock, afterHold, afterJob, afterSpeed, standingOf}
 use Rattle.records.specs.declared.Standing.{Standing}
 use Rattle.rules.specs.Lists.{Rising}
-use Rattle.rules.specs.Refusals.{Before, Item, Judged, accept, accepted, added, bad, faultOf, one, refusedFor}
+use Rattle.rules.specs.Refusals.{Before, Item, Judged, accept, accepted, bad, faultOf, one, refusedFor, withMore}
 use Rattle.rules.specs.TableText.{Record, lineFeed}
 use Rattle.rules.specs.declared.Job.{Job}
 use Rattle.rules.specs.declared.Refusal.{Refusal}
@@ -31,10 +31,6 @@ pub record Noted (b : Before) (before : Standing) (numbers requests : List ℕ) 
 abbrev pub faultIn : Before → Item → Option Refusal
 faultIn b (one r) = faultOf b r
 faultIn b (bad why) = some why
-
--- what stands before the next line
-abbrev pub withMore : Before → Record → Before
-withMore b r = record { begun = true; records = added (b .records) r }
 
 -- the step's answer, as the rules judge
 unfoldable pub judgedAs : Before → Parsed → Judged

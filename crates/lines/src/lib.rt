@@ -15,7 +15,7 @@ ghost use Rattle.lines.specs.Step.{LineAccepted, Noted, afterParsed, cou
 
 // The lowest refusal of what a line holds, 1 to 7, after the lines accepted so far; the columns hold their jobs' numbers
 // and requests.
-fn judge<'a>(
+fn judge_line<'a>(
     before: Standing,
     parsed: Parsed,
     numbers: &'a [u64; MOST_JOBS],
@@ -49,7 +49,7 @@ pub fn accept_line<'a>(
 {
     let line = text::record_at(text, place);
     let parsed = line.parsed;
-    let judgement = judge(before, parsed, numbers, requests);
+    let judgement = judge_line(before, parsed, numbers, requests);
     let Judgement::Bad(why) = judgement else {
         return line;
     };
@@ -73,7 +73,7 @@ pub fn count_of(before: Standing, parsed: Parsed) -> usize
 }
 
 // The state after what a line holds.
-pub fn after(before: Standing, parsed: Parsed) -> Standing
+pub fn standing_after(before: Standing, parsed: Parsed) -> Standing
     requires { ⌜ (before .speeds ≤ mostSpeeds) × (before .jobs ≤ mostJobs) × (before .holds ≤ mostHolds) ⌝ }
     ensures { λ r. ⌜ r ≡ afterParsed before parsed ⌝ }
 {

@@ -1,4 +1,4 @@
-mod PairLines
+mod RowsStored
 mod Orders
 mod Unplanned
 mod PlanTexts

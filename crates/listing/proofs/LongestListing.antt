@@ -1,40 +1,42 @@
--- The longest listing has 1,118 bytes. A P has at most 26: 64 jobs at the highest cost have an energy of 15 digits. For each job
--- of the table there is an X of at most 9, or an O of at most 17, but 18 where the finish is the last time there is, which alone
--- has 10 digits: no finish is after it. Such a finish have at most 4: rounded up, they all end in one millisecond, which has no
--- more than 4 cycles. A refusal stands at line 114 at the latest, behind the lines that a table has at most, and its line has at
--- most 9 bytes. One table has the most of all. Assumes nothing.
+-- How long a listing is at most. A P is no longer than that of all jobs with the most cycles, at the highest speed and cost. For
+-- each job of the table there is an X of at most 9 bytes, or an O of at most 17, but 18 where the finish is the last time there
+-- is, which alone has 10 digits: no finish is after it. Such a finish have at most 4: rounded up, they all end in one
+-- millisecond, which has no more than 4 cycles. A refusal stands at the latest behind the lines that a table has at most, and
+-- its line has at most 9 bytes. One table has the most of all. Assumes nothing.
 use mathlib.Core.Bool.{true}
 use mathlib.Core.List.{List, [], _∷_, _++_, map}
 use mathlib.Core.Path.{_≡_, refl}
-use Prim.Native.Nat.{ℕ, zero, suc, _+_, _-_, _*_, _/_, _^_, _≤_, _<_}
+use Prim.Native.Nat.{ℕ, zero, suc, min, _+_, _-_, _*_, _/_, _^_, _≤_, _<_}
 use native.Mathlib.Nat.{mul-comm, mul-div-le, mul-le-mul, mul-le-mul-right, mul-suc}
 use native.Mathlib.Omega.{arith}
 use borrow.Author.Tests.{ltb-false, ltb-true}
 use lib.Dec.{eqb, ltb}
 use lib.ListN.{length, length-append}
-use Rattle.laws.proofs.Accepted.{Standing, clock-read, nothing-read, reached-standing, taken-exactly, valid}
+use Rattle.grammar.proofs.Accepted.{Reachable, clock-read, nothing-read, reached-standing, taken-exactly, valid}
 use Rattle.laws.proofs.Choices.{split}
 use Rattle.laws.proofs.Costs.{rounded-up-enough}
-use Rattle.laws.proofs.Course.{plan-sound}
-use Rattle.laws.proofs.Elements.{each-map, each-too}
-use Rattle.laws.proofs.Jobs.{each-left, listed-has}
-use Rattle.laws.proofs.Longest.{digits, line-length}
-use Rattle.laws.proofs.Lookups.{each-both, each-keep, found-each, length-map}
-use Rattle.laws.proofs.Planned.{each-fated}
-use Rattle.laws.proofs.Ranges.{SpeedRanges, job-ranges, speed-ranges}
-use Rattle.laws.proofs.Stopped.{Reached, Stopped, at-item, at-items-end, refused-where-stopped}
-use Rattle.laws.proofs.Tables.{job, speed, table}
-use Rattle.laws.proofs.Testers.{promises}
+use Rattle.laws.proofs.Elements.{each-too}
+use Rattle.grammar.proofs.Longest.{line-length, so-many-digits, withDigits}
+use Rattle.laws.proofs.Lookups.{each-both, each-keep, length-map}
+use Rattle.steps.proofs.Planned.{each-fated, each-planned, plan-counts-ones}
+use Rattle.grammar.proofs.Ranges.{job-ranges}
+use Rattle.steps.proofs.Speeds.{finish-in-time, plan-speed-in-range}
+use lib.Seq.{take-length}
+use Rattle.grammar.proofs.Decimal.{digitsOf-at-most-20, digitsOf-digits, digitsOf-length, digitsOf-some, value-digitsOf}
+use Rattle.grammar.proofs.DecimalBack.{value-below}
+use Rattle.grammar.proofs.Stopped.{Reached, Stopped, at-item, at-items-end, refused-where-stopped}
+use Rattle.grammar.proofs.Tables.{job, speed, table}
+use Rattle.steps.proofs.Fates.{fates-1-to-6}
 use Rattle.laws.proofs.Tests.{both-true, within-true}
-use Rattle.laws.proofs.Trips.{valid-few-holds}
+use Rattle.grammar.proofs.Trips.{valid-few-holds}
 use Rattle.rules.specs.Answers.{numberOf}
 use Rattle.rules.specs.Case.{right}
 use Rattle.rules.specs.Costs.{roundedUp}
 use Rattle.rules.specs.Listing.{fateLine, finish, letterO, letterP, letterR, letterX, linesFor, listingOf, orderLine, planLine, planLines, unplanned}
 use Rattle.rules.specs.Lists.{Each, joined, keep, none-left, _and_}
-use Rattle.rules.specs.Plan.{Entry, Fated, Run, cyclesOf, energyAt, fatePlanned, fatesOf, jobsOf, planFrom, planOf, qualifies, runsFrom, runsOf}
-use Rattle.rules.specs.Refusals.{Before, Item, Taken, nothing, one, read, refusedAt, taken, itemsIn}
-use Rattle.rules.specs.TableText.{Record, Records, inRange, isCycles, isJobNumber, isRequest, isTime, isWorth, lineText, lined, linesOf, mostCycles, mostJobs, textOf}
+use Rattle.rules.specs.Plan.{Fated, Run, cyclesOf, energyAt, fatePlanned, fatesOf, planFrom, planOf, runsFrom, runsOf}
+use Rattle.rules.specs.Refusals.{Before, Item, Taken, nothing, one, read, readUpTo, refusedAt, taken, itemsIn}
+use Rattle.rules.specs.TableText.{Record, Records, inRange, isCycles, isJobNumber, isRequest, isTime, isWorth, lineText, lined, linesOf, mostCycles, mostJobs, textOf, digitsOf, digitsWithin, mostHolds, mostSpeeds, mostMhz, mostTime, mostCost}
 use Rattle.rules.specs.Valid.{Valid}
 use Rattle.rules.specs.declared.Job.{Job}
 use Rattle.rules.specs.declared.Refusal.{Refusal}
@@ -45,36 +47,66 @@ lines-length line most none-left = omega arith
 lines-length line most (_and_ {x} {xs} h hs) =
     rw (length-append (line x) (joined line xs)) (omega (arith, lines-length line most hs, mul-suc most (length xs)))
 
+-- a number has no more digits than one that it is not above
+digits-at-most : (most n : ℕ) → most < 10 ^ 20 → n ≤ most → length (digitsOf n) ≤ length (digitsOf most)
+digits-at-most most n small h =
+    let ds = digitsOf most in
+    let below : most < 10 ^ length ds =
+    rw (take-length ds, value-digitsOf most small) at (value-below ds (digitsOf-digits most) (length ds) (omega arith)) in
+    digitsOf-length (length ds) n (digitsOf-some most) (digitsOf-at-most-20 most) (omega arith)
+
+-- All jobs with the most cycles, at the highest cost.
+abbrev mostEnergy : ℕ
+mostEnergy = mostCycles * mostJobs * mostCost
+
+abbrev mostPlanLine : ℕ
+mostPlanLine = withDigits (mostMhz ∷ mostEnergy ∷ mostJobs ∷ [])
+
+-- The bytes of the longest listing: the one figure that a table of more jobs would change.
+abbrev pub mostListed : ℕ
+mostListed = 1118
+
+most-listed : mostPlanLine + (17 * mostJobs + 4) ≡ mostListed
+unfolding digitsOf digitsWithin
+most-listed = refl
+
 -- The three kinds of line, and the refusal's.
-plan-line-length : (mhz energy count : ℕ) → mhz ≤ 4000 → energy < 10 ^ 15 → count ≤ mostJobs
-    → length (lineText letterP (mhz ∷ energy ∷ count ∷ [])) ≤ 26
+plan-line-length : (mhz energy count : ℕ) → mhz ≤ mostMhz → energy ≤ mostEnergy → count ≤ mostJobs
+    → length (lineText letterP (mhz ∷ energy ∷ count ∷ [])) ≤ mostPlanLine
 plan-line-length mhz energy count h k l =
-    let four = digits 3 mhz (omega arith) (omega arith) in
-    let fifteen = digits 14 energy (omega arith) k in
-    let two = digits 1 count (omega arith) (omega arith) in
-    rw (line-length letterP (mhz ∷ energy ∷ count ∷ [])) (omega arith)
+    rw (line-length letterP (mhz ∷ energy ∷ count ∷ []))
+    (omega (
+      arith,
+      digits-at-most mostMhz mhz (omega arith) h,
+      digits-at-most mostEnergy energy (omega arith) k,
+      digits-at-most mostJobs count (omega arith) l,
+    ))
 
 order-line-length : (k clock mhz : ℕ) (r : Run) → inRange (Record.J (r .job)) ≡ true → k < 20
     → finish clock mhz r < 10 ^ suc k → length (orderLine clock mhz r) ≤ 9 + k
 unfolding orderLine
 order-line-length k clock mhz r e most h =
     let ranges = job-ranges (r .job) e in
-    let four = digits 3 (r .job .number) (omega arith) (omega arith) in
-    let finishing = digits k (finish clock mhz r) most h in
+    let four = so-many-digits 3 (r .job .number) (omega arith) (omega arith) in
+    let finishing = so-many-digits k (finish clock mhz r) most h in
     rw (line-length letterO (r .job .number ∷ finish clock mhz r ∷ [])) (omega arith)
 
 fate-line-length : (i : Fated) → inRange (Record.J (i .job)) ≡ true → i .fate ≤ 6 → length (fateLine i) ≤ 9
 unfolding fateLine
 fate-line-length i e h =
     let ranges = job-ranges (i .job) e in
-    let four = digits 3 (i .job .number) (omega arith) (omega arith) in
-    let single = digits 0 (i .fate) (omega arith) (omega arith) in
+    let four = so-many-digits 3 (i .job .number) (omega arith) (omega arith) in
+    let single = so-many-digits 0 (i .fate) (omega arith) (omega arith) in
     rw (line-length letterX (i .job .number ∷ i .fate ∷ [])) (omega arith)
 
-refusal-line-length : (number line : ℕ) → number ≤ 10 → line ≤ 114 → length (lineText letterR (number ∷ line ∷ [])) ≤ 9
+-- A T, and the F, J and H that a table has at most.
+abbrev mostLines : ℕ
+mostLines = 1 + (mostSpeeds + (mostJobs + mostHolds))
+
+refusal-line-length : (number line : ℕ) → number ≤ 10 → line ≤ suc mostLines → length (lineText letterR (number ∷ line ∷ [])) ≤ 9
 refusal-line-length number line h k =
-    let two = digits 1 number (omega arith) (omega arith) in
-    let three = digits 2 line (omega arith) (omega arith) in
+    let two = so-many-digits 1 number (omega arith) (omega arith) in
+    let three = so-many-digits 2 line (omega arith) (omega arith) in
     rw (line-length letterR (number ∷ line ∷ [])) (omega arith)
 
 -- Each job with its fate is planned or unplanned.
@@ -96,10 +128,6 @@ unfolding runsFrom
 runs-length cycles [] = refl
 runs-length cycles (j ∷ js) = omega (arith, runs-length (cycles + j .cycles) js)
 
--- The last time that there is.
-abbrev lastTime : ℕ
-lastTime = 1000000000
-
 some-cycle : (j : Job) → inRange (Record.J j) ≡ true → 1 ≤ j .cycles
 unfolding inRange isCycles
 some-cycle j e =
@@ -118,9 +146,9 @@ cycles-behind bound before none-left none-left h = omega arith
 cycles-behind bound before (_and_ {x} {xs} p ps) (e and es) h =
     omega (arith, some-cycle x p, cycles-behind bound (before + x .cycles) ps es e)
 
-module _ (clock mhz : ℕ) (some-mhz : 1 ≤ mhz) (few-mhz : mhz ≤ 4000) where
+module _ (clock mhz : ℕ) (some-mhz : 1 ≤ mhz) (few-mhz : mhz ≤ mostMhz) where
   -- the cycles of a run that ends by the last time, where ms are as many as there are from the clock to it, or more
-  within-last : (ms : ℕ) (r : Run) → finish clock mhz r ≤ lastTime → lastTime ≤ clock + ms → r .cyclesByEnd * 1000 ≤ ms * mhz
+  within-last : (ms : ℕ) (r : Run) → finish clock mhz r ≤ mostTime → mostTime ≤ clock + ms → r .cyclesByEnd * 1000 ≤ ms * mhz
   unfolding finish
   within-last ms r h l =
       let by-end = r .cyclesByEnd * 1000 in
@@ -133,9 +161,9 @@ module _ (clock mhz : ℕ) (some-mhz : 1 ≤ mhz) (few-mhz : mhz ≤ 4000) where
       omega (arith, mul-div-le (a + (mhz - 1)) mhz, mul-comm mhz ((a + (mhz - 1)) / mhz))
 
   -- behind a run that finishes at the last time there are at most 3
-  few-behind : (r : Run) {js : List Job} → lastTime ≤ finish clock mhz r → finish clock mhz r ≤ lastTime
+  few-behind : (r : Run) {js : List Job} → mostTime ≤ finish clock mhz r → finish clock mhz r ≤ mostTime
       → Each (λ j. inRange (Record.J j) ≡ true) js
-      → Each (λ (later : Run). finish clock mhz later ≤ lastTime) (runsFrom (r .cyclesByEnd) js) → length js ≤ 3
+      → Each (λ (later : Run). finish clock mhz later ≤ mostTime) (runsFrom (r .cyclesByEnd) js) → length js ≤ 3
   unfolding finish
   few-behind r l h ps es =
       let by-end = r .cyclesByEnd in
@@ -144,7 +172,7 @@ module _ (clock mhz : ℕ) (some-mhz : 1 ≤ mhz) (few-mhz : mhz ≤ 4000) where
       omega (arith, behind, rounded-up-close (by-end * 1000))
 
   order-lines-length : (before : ℕ) {js : List Job} → Each (λ j. inRange (Record.J j) ≡ true) js
-      → Each (λ (r : Run). finish clock mhz r ≤ lastTime) (runsFrom before js)
+      → Each (λ (r : Run). finish clock mhz r ≤ mostTime) (runsFrom before js)
       → length (joined (orderLine clock mhz) (runsFrom before js)) ≤ 17 * length js + 4
   unfolding runsFrom
   order-lines-length before none-left none-left = omega arith
@@ -152,10 +180,10 @@ module _ (clock mhz : ℕ) (some-mhz : 1 ≤ mhz) (few-mhz : mhz ≤ 4000) where
       let r : Run = record { job = x; cyclesByEnd = before + x .cycles } in
       let others = runsFrom (before + x .cycles) xs in
       rw (length-append (orderLine clock mhz r) (joined (orderLine clock mhz) others))
-      (split (ltb (finish clock mhz r) lastTime)
+      (split (ltb (finish clock mhz r) mostTime)
       (λ early. omega (
         arith,
-        order-line-length 8 clock mhz r p (omega arith) (ltb-true (finish clock mhz r) lastTime early),
+        order-line-length 8 clock mhz r p (omega arith) (ltb-true (finish clock mhz r) mostTime early),
         order-lines-length (before + x .cycles) ps es,
         mul-suc 17 (length xs),
       ))
@@ -165,7 +193,7 @@ module _ (clock mhz : ℕ) (some-mhz : 1 ≤ mhz) (few-mhz : mhz ≤ 4000) where
         lines-length (orderLine clock mhz) 18
             (each-both (λ later q h. order-line-length 9 clock mhz later q (omega arith) (omega (arith, h))) (each-run (before + x .cycles) ps) es),
         runs-length (before + x .cycles) xs,
-        few-behind r (ltb-false (finish clock mhz r) lastTime last) e ps es,
+        few-behind r (ltb-false (finish clock mhz r) mostTime last) e ps es,
       )))
 
 -- The cycles of a plan.
@@ -174,60 +202,45 @@ unfolding cyclesOf
 cycles-length none-left = omega arith
 cycles-length (_and_ {x} {xs} p ps) = omega (arith, job-ranges x p .cycles-to, cycles-length ps, mul-suc mostCycles (length xs))
 
-abbrev pub mostListed : ℕ
-mostListed = 1118
-
 module _ (t : Records) (v : Valid t) where
-  -- what holds of each job of the table holds of each planned
-  each-planned : {P : Job → Type 0} → Each P (t .jobs) → Each P (planOf t .jobs)
-  unfolding planOf planFrom jobsOf
-  each-planned e =
-      each-map (λ (x : Entry). x .job)
-      (each-too (λ x listed. listed-has (each-left t e) listed) (plan-sound t v .ordered .lined .listed))
-
   fates-length : length (planOf t .fates) ≡ length (t .jobs)
   unfolding planOf planFrom
   fates-length = length-map _ (t .jobs)
 
   jobs-apart : length (planOf t .jobs) + length (keep unplanned (planOf t .fates)) ≡ length (t .jobs)
-  jobs-apart = omega (arith, planned-and-unplanned (planOf t .fates), promises t v .count-of-ones, fates-length)
-
-  speed-small : SpeedRanges (planOf t .speed)
-  speed-small =
-      found-each {P = SpeedRanges} (qualifies t (planOf t .jobs)) (each-too speed-ranges (v .speed-ranges))
-      (promises t v .speed-found .found)
+  jobs-apart = omega (arith, planned-and-unplanned (planOf t .fates), plan-counts-ones t v, fates-length)
 
   few-planned : length (planOf t .jobs) ≤ mostJobs
   few-planned = omega (arith, jobs-apart, v .few-jobs)
 
-  energy-small : planOf t .energy < 10 ^ 15
+  energy-small : planOf t .energy ≤ mostEnergy
   unfolding planOf planFrom energyAt
   energy-small =
       let cycles : cyclesOf (planOf t .jobs) ≤ mostCycles * mostJobs =
-      omega (arith, cycles-length (each-planned (v .job-ranges)), few-planned) in
-      omega (arith, mul-le-mul cycles (speed-small .cost-to))
+      omega (arith, cycles-length (each-planned t v (v .job-ranges)), few-planned) in
+      omega (arith, mul-le-mul cycles (plan-speed-in-range t v .cost-to))
 
-  plan-first : length (planLine (planOf t)) ≤ 26
+  plan-first : length (planLine (planOf t)) ≤ mostPlanLine
   unfolding planLine
   plan-first =
-      plan-line-length (planOf t .speed .mhz) (planOf t .energy) (length (planOf t .jobs)) (speed-small .mhz-to) energy-small
+      plan-line-length (planOf t .speed .mhz) (planOf t .energy) (length (planOf t .jobs)) (plan-speed-in-range t v .mhz-to) energy-small
       few-planned
 
   orders-length : length (joined (orderLine (t .clock) (planOf t .speed .mhz)) (runsOf (planOf t .jobs)))
       ≤ 17 * length (planOf t .jobs) + 4
   unfolding runsOf
   orders-length =
-      order-lines-length (t .clock) (planOf t .speed .mhz) (speed-small .mhz-from) (speed-small .mhz-to) 0
-      (each-planned (v .job-ranges))
-      (each-both (λ r e h. omega (arith, job-ranges (r .job) e .termination-to, h)) (each-run 0 (each-planned (v .job-ranges)))
-      (promises t v .finish-by-termination))
+      order-lines-length (t .clock) (planOf t .speed .mhz) (plan-speed-in-range t v .mhz-from) (plan-speed-in-range t v .mhz-to) 0
+      (each-planned t v (v .job-ranges))
+      (each-both (λ r e h. omega (arith, job-ranges (r .job) e .termination-to, h)) (each-run 0 (each-planned t v (v .job-ranges)))
+      (finish-in-time t v))
 
   unplanned-length : length (joined fateLine (keep unplanned (planOf t .fates)))
       ≤ 9 * length (keep unplanned (planOf t .fates))
   unplanned-length =
       lines-length fateLine 9
       (each-keep unplanned
-      (each-both (λ i e h. fate-line-length i e (h .1)) (each-fated t (v .job-ranges)) (promises t v .one-of-six)))
+      (each-both (λ i e h. fate-line-length i e (h .1)) (each-fated t (v .job-ranges)) (fates-1-to-6 t v)))
 
   -- The lines of a plan.
   pub longest-plan-lines : length (planLines (t .clock) (planOf t)) ≤ mostListed
@@ -236,9 +249,9 @@ module _ (t : Records) (v : Valid t) where
       let orders = joined (orderLine (t .clock) (planOf t .speed .mhz)) (runsOf (planOf t .jobs)) in
       let others = joined fateLine (keep unplanned (planOf t .fates)) in
       rw (length-append (planLine (planOf t)) (orders ++ others), length-append orders others)
-      (omega (arith, plan-first, orders-length, unplanned-length, jobs-apart, v .few-jobs))
+      (omega (arith, plan-first, orders-length, unplanned-length, jobs-apart, v .few-jobs, most-listed))
 
--- The lines accepted before a refusal: at most a T, 16 F, 64 J and 32 H.
+-- The lines accepted before a refusal.
 lined-length : (r : Records)
     → length (lined r) ≡ 1 + (length (r .speeds) + (length (r .jobs) + length (r .holds)))
 unfolding lined
@@ -249,21 +262,21 @@ lined-length r =
     omega
     (arith, length-append speeds (jobs ++ holds), length-append jobs holds, length-map Record.F (r .speeds), length-map Record.J (r .jobs), length-map Record.H (r .holds))
 
-standing-few : {b : Before} {rs : List Record} → Standing b rs → length rs ≤ 113
+standing-few : {b : Before} {rs : List Record} → Reachable b rs → length rs ≤ mostLines
 standing-few nothing-read = omega arith
 standing-few (clock-read e) = omega arith
 standing-few (valid {r} v) = omega (arith, lined-length r, v .few-speeds, v .few-jobs, valid-few-holds v)
 
-reached-few : {items : List Item} {last : Before} → Reached nothing items last → length items ≤ 113
+reached-few : {items : List Item} {last : Before} → Reached nothing items last → length items ≤ mostLines
 reached-few reached =
     let (rs, same, stands) = reached-standing nothing-read reached in
     rw same (omega (arith, length-map one rs, standing-few stands))
 
-pub refused-by-line-114 : (text : List ℕ) (why : Refusal) (line : ℕ) → read text ≡ refusedAt why line → line ≤ 114
-unfolding read
-refused-by-line-114 text why line e = go (refused-where-stopped 1 nothing (itemsIn (linesOf text)) why line .0 e)
+pub refused-by-last-line : (text : List ℕ) (why : Refusal) (line : ℕ) → read text ≡ refusedAt why line → line ≤ suc mostLines
+unfolding readUpTo
+refused-by-last-line text why line e = go (refused-where-stopped 1 nothing (itemsIn (linesOf text)) why line .0 e)
   where
-    go : Stopped 1 nothing (itemsIn (linesOf text)) why line → line ≤ 114
+    go : Stopped 1 nothing (itemsIn (linesOf text)) why line → line ≤ suc mostLines
     go (at-item front rest i last split reached refusal stands) = omega (arith, reached-few reached)
     go (at-items-end last reached no-speed is-order stands) = omega (arith, reached-few reached)
 
@@ -280,7 +293,7 @@ refusal-number Refusal.Model = omega arith
 refusal-number Refusal.Allocation = omega arith
 
 taken-valid : (text : List ℕ) (t : Records) → read text ≡ taken t → Valid t
-unfolding read
+unfolding readUpTo
 taken-valid text t e = taken-exactly 1 (itemsIn (linesOf text)) t .0 e .0
 
 -- Whatever the text, the listing has no more bytes.
@@ -291,18 +304,32 @@ longest-listing text = go (read text) refl
     go : (answer : Taken) → read text ≡ answer → length (linesFor answer) ≤ mostListed
     go (taken t) e = longest-plan-lines t (taken-valid text t e)
     go (refusedAt why line) e =
-        omega (arith, refusal-line-length (numberOf why) line (refusal-number why) (refused-by-line-114 text why line e))
+        omega (arith, refusal-line-length (numberOf why) line (refusal-number why) (refused-by-last-line text why line e))
 
--- A table whose listing has as many: sixty jobs of the most cycles, and behind them four of one cycle each, which take up the last
--- millisecond there is.
+-- A table whose listing has as many: its last four jobs have one cycle each, which take up the last millisecond there is, and the
+-- others share the cycles that they may have, or that the budget leaves them.
 abbrev row : (ℕ → Job) → ℕ → ℕ → List Job
 row f n zero = []
 row f n (suc count) = f n ∷ row f (n + 1) count
 
+abbrev others : ℕ
+others = mostJobs - 4
+
+abbrev cyclesOfOthers : ℕ
+cyclesOfOthers = min (mostCycles * others) (10 ^ 15 / 4000000 - 4)
+
+abbrev share : ℕ
+share = cyclesOfOthers / others
+
+abbrev longJobs : List Job
+longJobs =
+    job 1000 (cyclesOfOthers - share * (others - 1)) 1 999999999 mostTime 0
+    ∷ row (λ n. job n share 1 999999999 mostTime 0) 1001 (others - 1)
+
 abbrev pub longestListed : Records
 longestListed =
-    table 984999999 (10 ^ 15) (speed 4000 4000000 ∷ [])
-    (row (λ n. job n mostCycles 1 999999999 lastTime 0) 1000 60 ++ row (λ n. job n 1 1 lastTime lastTime 0) 1060 4) []
+    table (999999999 - cyclesOfOthers / 4) (10 ^ 15) (speed 4000 4000000 ∷ [])
+    (longJobs ++ row (λ n. job n 1 1 mostTime mostTime 0) (1000 + others) 4) []
 
 pub longest-listing-length : length (listingOf (textOf longestListed)) ≡ mostListed
 unfolding right

@@ -1,5 +1,5 @@
 -- The O lines that are left from an index of the places on, behind so many cycles: the line of the job there, which ends
--- behind its own cycles, and the lines behind it. So a pair stored for that job takes its line from those left to those
+-- behind its own cycles, and the lines behind it. So the two numbers stored for that job take its line from those left to those
 -- stored. Assumes nothing.
 use mathlib.Core.List.{List, [], _∷_, _++_, append-assoc}
 use mathlib.Core.Path.{_≡_, refl}
@@ -7,8 +7,8 @@ use Prim.Native.Nat.{ℕ, _+_, _*_, _≤_, _<_}
 use lib.ListN.{length, drop, getD, set, take}
 use Rattle.columns.proofs.Entries.{next-job, no-job-left}
 use Rattle.columns.specs.Columns.{Column, jobsAt}
-use Rattle.listing.proofs.PairLines.{pair-stored}
-use Rattle.listing.specs.Pairs.{pairLines}
+use Rattle.listing.proofs.RowsStored.{two-stored}
+use Rattle.listing.specs.Texts.{rowsLines, rowFields}
 use Rattle.rules.specs.Costs.{roundedUp}
 use Rattle.rules.specs.Listing.{finish, letterO, orderLine}
 use Rattle.rules.specs.Lists.{joined}
@@ -47,9 +47,10 @@ module _ (js : List Job) (number cycles : List ℕ) (number-of : Column (λ j. j
   unfolding runsFrom
   no-order-left h = rw (no-job-left js places i h)
 
-  pub order-stored : (firsts seconds : List ℕ) → i < length places → i < length firsts → i < length seconds
-      → pairLines letterO (take (i + 1) (set firsts i (getD number place 0))) (take (i + 1) (set seconds i (finishBehind clock mhz runByEnd)))
-      ++ ordersLeft js places clock mhz runByEnd (i + 1)
-      ≡ pairLines letterO (take i firsts) (take i seconds) ++ ordersLeft js places clock mhz run i
-  order-stored firsts seconds h k l =
-      rw (pair-stored letterO firsts seconds i (getD number place 0) (finishBehind clock mhz runByEnd) k l, next-order h, append-assoc)
+  pub order-stored : (rows : List ℕ) (filled : ℕ) → i < length places → filled ≡ i * rowFields → filled + rowFields ≤ length rows
+      → let stored = set (set rows filled (getD number place 0)) (filled + 1) (finishBehind clock mhz runByEnd) in
+      rowsLines letterO (take (filled + rowFields) stored) ++ ordersLeft js places clock mhz runByEnd (i + 1)
+      ≡ rowsLines letterO (take filled rows) ++ ordersLeft js places clock mhz run i
+  order-stored rows filled h e room =
+      let more = two-stored letterO i filled rows (getD number place 0) (finishBehind clock mhz runByEnd) e room in
+      rw (more, next-order h, append-assoc)

@@ -6,11 +6,9 @@ use Prim.Native.Nat.{ℕ, _+_}
 use native.Mathlib.Nat.{zero-add}
 use native.Mathlib.Omega.{arith}
 use lib.ListN.{length, length-append}
-use Rattle.laws.proofs.Put.{put-behind}
-use Rattle.laws.specs.Put.{put}
-use Rattle.listing.specs.Pairs.{linesOf}
-use Rattle.listing.specs.Texts.{planText}
-use Rattle.listing.specs.declared.Pairs.{Pairs}
+use Rattle.grammar.proofs.Put.{put-behind}
+use Rattle.grammar.specs.Put.{put}
+use Rattle.listing.specs.Texts.{rowsLines, planText}
 use Rattle.rules.specs.Listing.{letterO, letterP, letterX}
 use Rattle.rules.specs.TableText.{lineText}
 
@@ -22,22 +20,26 @@ three-at-front out a b c =
     rw (zero-add (length (a ++ b))) at (put-behind out 0 (a ++ b) c (omega arith)) in
     rw (two, ← length-append a b, three, append-assoc)
 
-module _ (speed energy count : ℕ) (order rest : Pairs) where
+module _ (speed energy count : ℕ) (orders others : List ℕ) where
   abbrev pub planFirst : List ℕ
   planFirst = lineText letterP (speed ∷ energy ∷ count ∷ [])
 
-  pub length-parts : length (planText speed energy count order rest)
-      ≡ length planFirst + (length (linesOf letterO order) + length (linesOf letterX rest))
+  pub length-parts : length (planText speed energy count orders others)
+      ≡ length planFirst + (length (rowsLines letterO orders) + length (rowsLines letterX others))
   unfolding planText
   length-parts =
-      rw (length-append planFirst (linesOf letterO order ++ linesOf letterX rest), length-append (linesOf letterO order) (linesOf letterX rest))
+      let order-lines = rowsLines letterO orders in
+      let other-lines = rowsLines letterX others in
+      rw (length-append planFirst (order-lines ++ other-lines), length-append order-lines other-lines)
 
   -- the three parts put one behind the other
-  pub parts-at-front : (out first second third : List ℕ) (behind-plan behind-order : ℕ)
+  pub parts-at-front : (out first second third : List ℕ) (behind-plan behind-orders : ℕ)
       → behind-plan ≡ 0 + length planFirst → first ≡ put out 0 planFirst
-      → behind-order ≡ behind-plan + length (linesOf letterO order) → second ≡ put first behind-plan (linesOf letterO order)
-      → third ≡ put second behind-order (linesOf letterX rest)
-      → third ≡ put out 0 (planText speed energy count order rest)
+      → behind-orders ≡ behind-plan + length (rowsLines letterO orders) → second ≡ put first behind-plan (rowsLines letterO orders)
+      → third ≡ put second behind-orders (rowsLines letterX others)
+      → third ≡ put out 0 (planText speed energy count orders others)
   unfolding planText
-  parts-at-front out first second third behind-plan behind-order p q r s e =
-      e ∙ rw (s, r, q, p, zero-add (length planFirst)) (three-at-front out planFirst (linesOf letterO order) (linesOf letterX rest))
+  parts-at-front out first second third behind-plan behind-orders p q r s e =
+      e
+      ∙ rw (s, r, q, p, zero-add (length planFirst))
+      (three-at-front out planFirst (rowsLines letterO orders) (rowsLines letterX others))

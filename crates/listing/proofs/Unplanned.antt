@@ -1,15 +1,15 @@
 -- The X lines that are left from a place of the table on: those behind the place, and before them the line of the job there
--- if it is unplanned. So a pair stored for that job takes its line from those left to those stored. Assumes nothing.
+-- if it is unplanned. So the two numbers stored for that job take its line from those left to those stored. Assumes nothing.
 use mathlib.Core.List.{List, [], _∷_, _++_, append-assoc, map}
 use mathlib.Core.Path.{_≡_}
-use Prim.Native.Nat.{ℕ, _+_, _≤_, _<_}
+use Prim.Native.Nat.{ℕ, _+_, _*_, _≤_, _<_}
 use native.Mathlib.Numerals.{add-one}
 use borrow.Author.Tests.{eq-eqb, ne-eqb}
 use lib.ListN.{length, drop, drop-of-length-le, getD, set, take}
 use lib.Seq.{drop-cons}
 use Rattle.columns.specs.Columns.{Column}
-use Rattle.listing.proofs.PairLines.{pair-stored}
-use Rattle.listing.specs.Pairs.{pairLines}
+use Rattle.listing.proofs.RowsStored.{two-stored}
+use Rattle.listing.specs.Texts.{rowsLines, rowFields}
 use Rattle.rules.specs.Listing.{fateLine, letterX, unplanned}
 use Rattle.rules.specs.Lists.{joined, keep}
 use Rattle.rules.specs.Plan.{fatePlanned}
@@ -40,10 +40,10 @@ module _ (js : List Job) (fate : Job → ℕ) (number fates : List ℕ) (number-
   pub no-fate-left : length js ≤ i → fatesLeft js fate i ≡ []
   no-fate-left h = rw (drop-of-length-le js h)
 
-  pub fate-stored : (firsts seconds : List ℕ) (count : ℕ) → i < length js → count < length firsts → count < length seconds
-      → (getD fates i 0 ≡ fatePlanned → ⊥)
-      → pairLines letterX (take (count + 1) (set firsts count (getD number i 0))) (take (count + 1) (set seconds count (getD fates i 0)))
+  pub fate-stored : (rows : List ℕ) (count filled : ℕ) → i < length js → filled ≡ count * rowFields
+      → filled + rowFields ≤ length rows → (getD fates i 0 ≡ fatePlanned → ⊥)
+      → rowsLines letterX (take (filled + rowFields) (set (set rows filled (getD number i 0)) (filled + 1) (getD fates i 0)))
       ++ fatesLeft js fate (i + 1)
-      ≡ pairLines letterX (take count firsts) (take count seconds) ++ fatesLeft js fate i
-  fate-stored firsts seconds count h k l other =
-      rw (pair-stored letterX firsts seconds count (getD number i 0) (getD fates i 0) k l, next-unplanned h other, append-assoc)
+      ≡ rowsLines letterX (take filled rows) ++ fatesLeft js fate i
+  fate-stored rows count filled h e room other =
+      rw (two-stored letterX count filled rows (getD number i 0) (getD fates i 0) e room, next-unplanned h other, append-assoc)

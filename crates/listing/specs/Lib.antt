@@ -1,4 +1,3 @@
-pub mod Pairs
 pub mod Promises
 pub mod Texts
 pub mod Listed

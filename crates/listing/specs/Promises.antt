@@ -2,15 +2,14 @@
 use mathlib.Core.List.{List, map}
 use mathlib.Core.Path.{_≡_}
 use Prim.Native.Nat.{ℕ, _≤_, _<_}
-use lib.ListN.{getD, length}
+use lib.ListN.{getD, length, take}
 use Rattle.columns.specs.Columns.{Column, jobsAt}
-use Rattle.entries.specs.Promises.{Summable, mostMhz, mostTime}
-use Rattle.listing.specs.Pairs.{linesOf}
-use Rattle.listing.specs.declared.Pairs.{Pairs}
+use Rattle.entries.specs.Promises.{Summable}
 use Rattle.rules.specs.Lists.{joined, keep}
 use Rattle.rules.specs.Listing.{fateLine, letterO, letterX, orderLine, unplanned}
 use Rattle.rules.specs.Plan.{runsOf}
-use Rattle.rules.specs.TableText.{mostJobs, noJob}
+use Rattle.rules.specs.TableText.{mostMhz, mostTime, noJob}
+use Rattle.listing.specs.Texts.{rowsLines, mostRowNumbers}
 use Rattle.rules.specs.declared.Job.{Job}
 
 -- Places, cycles, a clock and a speed in their ranges.
@@ -21,14 +20,16 @@ pub record Finishable (places cycles : List ℕ) (clock mhz : ℕ) : Type 0 wher
   pub mhz-small : mhz ≤ mostMhz
 
 -- "O job finish .., in plan order"
-pub record OrderPairs (places number cycles : List ℕ) (clock mhz : ℕ) (r : Pairs) : Type 0 where
-  pub few : r .count ≤ mostJobs
+pub record OrderRows (places number cycles : List ℕ) (clock mhz : ℕ) (rows : List ℕ) (filled : ℕ) : Type 0 where
+  pub few : filled ≤ mostRowNumbers
+  pub whole : length rows ≡ mostRowNumbers
   pub lines : (js : List Job) → Column (λ j. j .number) js number → Column (λ j. j .cycles) js cycles
-      → linesOf letterO r ≡ joined (orderLine clock mhz) (runsOf (jobsAt js places))
+      → rowsLines letterO (take filled rows) ≡ joined (orderLine clock mhz) (runsOf (jobsAt js places))
 
 -- "X job fate, for each unplanned job in table order"
-pub record FatePairs (number fates : List ℕ) (job-count : ℕ) (r : Pairs) : Type 0 where
-  pub few : r .count ≤ mostJobs
+pub record FateRows (number fates : List ℕ) (job-count : ℕ) (rows : List ℕ) (filled : ℕ) : Type 0 where
+  pub few : filled ≤ mostRowNumbers
+  pub whole : length rows ≡ mostRowNumbers
   pub lines : (js : List Job) (fate : Job → ℕ) → length js ≡ job-count → Column (λ j. j .number) js number
       → ((i : ℕ) → i < length js → getD fates i 0 ≡ fate (getD js i noJob))
-      → linesOf letterX r ≡ joined fateLine (keep unplanned (map (λ j. record { job = j; fate = fate j }) js))
+      → rowsLines letterX (take filled rows) ≡ joined fateLine (keep unplanned (map (λ j. record { job = j; fate = fate j }) js))

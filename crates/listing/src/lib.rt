@@ -10,13 +10,12 @@ use rules::Verdict;
 use rules::Written;
 use rules::number_of;
 ghost use mathlib.Core.Path.{_≡_};
-ghost use Prim.Native.Nat.{ℕ, _+_, _^_, _≤_, _<_};
+ghost use Prim.Native.Nat.{_+_, _^_, _≤_, _<_};
 ghost use lib.ListN.{length};
-ghost use Rattle.laws.specs.Put.{put};
+ghost use Rattle.grammar.specs.Put.{put};
 ghost use Rattle.listing.specs.Listed.{wrote};
-ghost use Rattle.listing.specs.Pairs.{linesOf};
-ghost use Rattle.listing.specs.Promises.{FatePairs, Finishable, OrderPairs};
-ghost use Rattle.listing.specs.Texts.{planText, refusalText};
+ghost use Rattle.listing.specs.Promises.{FateRows, Finishable, OrderRows};
+ghost use Rattle.listing.specs.Texts.{mostRowNumbers, planText, refusalText};
 ghost use Rattle.rules.specs.Costs.{roundedUp};
 ghost use Rattle.plans.specs.Promises.{Plannable};
 ghost use Rattle.rules.specs.Listing.{linesFor, listing, planLines};
@@ -24,12 +23,10 @@ ghost use Rattle.rules.specs.Plan.{planOf};
 ghost use Rattle.rules.specs.Refusals.{refusedAt, written};
 ghost use Rattle.rules.specs.TableText.{mostJobs, recordsOf};
 
-// Two numbers a line, for the first `count` places.
-pub struct Pairs {
-    pub first: [u64; MOST_JOBS],
-    pub second: [u64; MOST_JOBS],
-    pub count: usize,
-}
+// The O lines and the X lines have two numbers each, and there is one line for each job.
+const ROW_FIELDS: usize = 2;
+
+const MOST_ROW_NUMBERS: usize = ROW_FIELDS * MOST_JOBS;
 
 // "rounded up once": a / b as a whole number, which is not above a.
 fn rounded_up(a: u64, b: u64) -> u64
@@ -40,133 +37,92 @@ fn rounded_up(a: u64, b: u64) -> u64
 }
 
 // "O job finish (absolute ms at the chosen speed: now plus the run time of all cycles up to and with this job, rounded up
-// once), in plan order": the numbers of these lines.
-fn order_pairs<'a>(
+// once), in plan order": the numbers of these lines, and how many they are.
+fn order_rows<'a>(
     places: &[u64],
     number: &'a [u64; MOST_JOBS],
     cycles: &'a [u64; MOST_JOBS],
     clock: u64,
     mhz: u64,
-) -> Pairs
-    requires { ⌜ Finishable (now places) (now cycles) clock mhz ⌝ }
-    ensures { λ r. ⌜ OrderPairs (now (places .entry)) (now (number .entry)) (now (cycles .entry)) clock mhz r ⌝ }
+    rows: &mut [u64; MOST_ROW_NUMBERS],
+) -> usize
+    requires { ⌜ Finishable (now places) (now cycles) clock mhz × (length (now rows) ≡ mostRowNumbers) ⌝ }
+    ensures { λ r. ⌜ OrderRows (now (places .entry)) (now (number .entry)) (now (cycles .entry)) clock mhz (now (rows .exit)) r ⌝ }
 {
-    let mut first = [0; MOST_JOBS];
-    let mut second = [0; MOST_JOBS];
     let mut run = 0;
+    let mut filled = 0;
     let mut i = 0;
     while i < places.len() {
         let place = places[i] as usize;
         run += cycles[place];
-        first[i] = number[place];
-        second[i] = clock + rounded_up(run * 1000, mhz);
+        rows[filled] = number[place];
+        rows[filled + 1] = clock + rounded_up(run * 1000, mhz);
+        filled += ROW_FIELDS;
         i += 1;
     }
-    Pairs {
-        first: first,
-        second: second,
-        count: i,
-    }
+    filled
 }
 
-// "X job fate, for each unplanned job in table order": the numbers of these lines.
-fn fate_pairs<'a>(
+// "X job fate, for each unplanned job in table order": the numbers of these lines, and how many they are.
+fn fate_rows<'a>(
     number: &'a [u64; MOST_JOBS],
     fates: &'a [u64; MOST_JOBS],
     job_count: usize,
-) -> Pairs
-    requires { ⌜ «job_count» ≤ mostJobs ⌝ }
-    ensures { λ r. ⌜ FatePairs (now (number .entry)) (now (fates .entry)) «job_count» r ⌝ }
+    rows: &mut [u64; MOST_ROW_NUMBERS],
+) -> usize
+    requires { ⌜ («job_count» ≤ mostJobs) × (length (now rows) ≡ mostRowNumbers) ⌝ }
+    ensures { λ r. ⌜ FateRows (now (number .entry)) (now (fates .entry)) «job_count» (now (rows .exit)) r ⌝ }
 {
-    let mut first = [0; MOST_JOBS];
-    let mut second = [0; MOST_JOBS];
-    let mut count = 0;
+    let mut filled = 0;
     let mut i = 0;
     while i < job_count {
         let place = i;
         i += 1;
         if fates[place] != FATE_PLANNED {
-            first[count] = number[place];
-            second[count] = fates[place];
-            count += 1;
+            rows[filled] = number[place];
+            rows[filled + 1] = fates[place];
+            filled += ROW_FIELDS;
         }
     }
-    Pairs {
-        first: first,
-        second: second,
-        count: count,
-    }
-}
-
-// How many bytes these lines have, whatever their letter.
-fn pairs_length(pairs: Pairs) -> usize
-    requires { ⌜ pairs .count ≤ mostJobs ⌝ }
-    ensures { λ r. ⌜ ((letter : ℕ) → r ≡ length (linesOf letter pairs)) ⌝ }
-{
-    let count = pairs.count;
-    let mut bytes: usize = 0;
-    let mut i = 0;
-    while i < count {
-        let first = pairs.first[i];
-        let second = pairs.second[i];
-        let numbers = [first, second];
-        bytes += digits::line_length(&numbers);
-        i += 1;
-    }
-    bytes
-}
-
-// Writes these lines at a place, and hands back the place behind them.
-fn put_pairs(out: &mut [u8], at: usize, letter: u8, pairs: Pairs) -> usize
-    requires { ⌜ (pairs .count ≤ mostJobs) × (at + length (linesOf letter pairs) ≤ length (now out)) ⌝ }
-    ensures { λ r. ⌜ (r ≡ at + length (linesOf letter pairs)) × (now (out .exit) ≡ put (now (out .entry)) at (linesOf letter pairs)) ⌝ }
-{
-    let count = pairs.count;
-    let mut next = at;
-    let mut i = 0;
-    while i < count {
-        let first = pairs.first[i];
-        let second = pairs.second[i];
-        let numbers = [first, second];
-        next = digits::put_line(out, next, letter, &numbers);
-        i += 1;
-    }
-    next
+    filled
 }
 
 // How many bytes a plan's lines have: P, then O, then X.
-fn listing_length(speed: u64, energy: u64, count: usize, order: Pairs, rest: Pairs) -> usize
-    requires { ⌜ (order .count ≤ mostJobs) × (rest .count ≤ mostJobs) ⌝ }
-    ensures { λ r. ⌜ r ≡ length (planText speed energy count order rest) ⌝ }
+fn listing_length<'a>(
+    speed: u64,
+    energy: u64,
+    count: usize,
+    orders: &'a [u64],
+    others: &'a [u64],
+) -> usize
+    requires { ⌜ (length (now orders) ≤ mostRowNumbers) × (length (now others) ≤ mostRowNumbers) ⌝ }
+    ensures { λ r. ⌜ r ≡ length (planText speed energy count (now (orders .entry)) (now (others .entry))) ⌝ }
 {
     let fields = [speed, energy, count as u64];
-    let behind_plan = pairs_length(order) + pairs_length(rest);
+    let behind_plan = digits::rows_length(orders, ROW_FIELDS)
+        + digits::rows_length(others, ROW_FIELDS);
     digits::line_length(&fields) + behind_plan
 }
 
 // Writes a plan's lines at the front of the buffer, and hands back their length.
-fn put_listing(
+fn put_listing<'a>(
     out: &mut [u8],
     speed: u64,
     energy: u64,
     count: usize,
-    order: Pairs,
-    rest: Pairs,
+    orders: &'a [u64],
+    others: &'a [u64],
 ) -> usize
-    requires { ⌜
-        (order .count ≤ mostJobs)
-        × (rest .count ≤ mostJobs)
-        × (length (planText speed energy count order rest) ≤ length (now out))
-        ⌝ }
+    requires { ⌜ length (planText speed energy count (now orders) (now others)) ≤ length (now out) ⌝ }
     ensures { λ r. ⌜
-        (r ≡ length (planText speed energy count order rest))
-        × (now (out .exit) ≡ put (now (out .entry)) 0 (planText speed energy count order rest))
+        (r ≡ length (planText speed energy count (now (orders .entry)) (now (others .entry))))
+        × (now (out .exit) ≡ put (now (out .entry)) 0 (planText speed energy count (now (orders .entry)) (now (others .entry))))
         ⌝ }
 {
     let numbers = [speed, energy, count as u64];
     let behind_plan = digits::put_line(out, 0, b'P', &numbers);
-    let behind_order = put_pairs(out, behind_plan, b'O', order);
-    put_pairs(out, behind_order, b'X', rest)
+    let behind_orders = digits::put_rows(out, behind_plan, b'O', orders, ROW_FIELDS);
+    digits::put_rows(out, behind_orders, b'X', others, ROW_FIELDS)
 }
 
 // How many bytes a refusal's line has.
@@ -201,18 +157,35 @@ fn list_plan(table: Table, out: &mut [u8]) -> Written
     let count = decided.count;
     let mhz = decided.speed.mhz;
     let energy = decided.energy;
-    let order = order_pairs(
+    let mut orders = [0; MOST_ROW_NUMBERS];
+    let order_end = order_rows(
         &places[..count],
         &columns.number,
         &columns.cycles,
         table.clock,
         mhz,
+        &mut orders,
     );
-    let rest = fate_pairs(&columns.number, &fates, table.job_count);
-    if out.len() < listing_length(mhz, energy, count, order, rest) {
+    let mut others = [0; MOST_ROW_NUMBERS];
+    let other_end = fate_rows(&columns.number, &fates, table.job_count, &mut others);
+    let length = listing_length(
+        mhz,
+        energy,
+        count,
+        &orders[..order_end],
+        &others[..other_end],
+    );
+    if out.len() < length {
         return Written::Refused(Refusal::Room, 0);
     }
-    Written::Length(put_listing(out, mhz, energy, count, order, rest))
+    Written::Length(put_listing(
+        out,
+        mhz,
+        energy,
+        count,
+        &orders[..order_end],
+        &others[..other_end],
+    ))
 }
 
 // The one line of a refusal, where there is room for it.

@@ -7,13 +7,14 @@ use Prim.Native.Nat.{ℕ, zero, suc}
 use contract.Lifetimes.{Lfts}
 use denote.Ref.{RefT, now}
 use lib.ListN.{drop, length, take}
-use Rattle.handing.specs.Promises.{HandedBack, countOf}
+use Rattle.handing.specs.Promises.{HandedBack, plannedCount}
 use Rattle.planner.specs.Promises.{Together}
 use Rattle.planner.proofs.Answers.{part-of-leaves}
 use Rattle.planner.proofs.Unique.{Promised}
 use Rattle.rules.specs.Plan.{AfterPlanning, partOf}
 use Rattle.rules.specs.declared.Decision.{Decision}
 use Rattle.rules.specs.declared.Refusal.{Refusal}
+use Rattle.rules.specs.Refusals.{read}
 
 -- a front part and what stands behind it are the list
 front-and-behind : (n : ℕ) (xs : List ℕ) → take n xs ++ drop (length (take n xs)) xs ≡ xs
@@ -24,11 +25,11 @@ front-and-behind (suc n) (x ∷ xs) = ap (λ (r : List ℕ). x ∷ r) (front-and
 pub plan-into-then-hand-back : (lifetimes : Lfts 3) (text order fates order′ fates′ : RefT (List ℕ)) (d : Decision)
     (begin at : ℕ × ℕ) (part : List ℕ) → Promised lifetimes text order fates d order′ fates′
     → HandedBack (order′ .now) begin d part at
-    → Together (text .now) (order .now) (fates .now) begin (order′ .now) part at
+    → Together (read (text .now)) (order .now) (fates .now) begin (order′ .now) part at
 plan-into-then-hand-back lifetimes text order fates order′ fates′ d begin at part promised handed = record {
   part-is = handed .part-is ∙ part-of-leaves d (order′ .now) (fates′ .now) ∙ ap partOf promised;
   begins = handed .begins;
-  every-place = rw (handed .part-is) (front-and-behind (countOf d) (order′ .now)) ∙ ap (λ (a : AfterPlanning). a .order) promised;
+  every-place = rw (handed .part-is) (front-and-behind (plannedCount d) (order′ .now)) ∙ ap (λ (a : AfterPlanning). a .order) promised;
 }
 
 -- where refused, the part is empty

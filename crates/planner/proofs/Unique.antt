@@ -20,6 +20,7 @@ use Rattle.planner.specs.Promises.{PlannedAs}
 use Rattle.planner.specs.declared.Planned.{Planned}
 use Rattle.rules.specs.Plan.{AfterPlanning}
 use Rattle.rules.specs.declared.Decision.{Decision}
+use Rattle.rules.specs.Refusals.{read}
 
 -- what the promise of `plan_into` tells a caller of a decision and the lent buffers behind the call
 abbrev pub Promised : Lfts 3 → (text order fates : RefT (List ℕ)) → Decision → (order′ fates′ : RefT (List ℕ)) → Type 0
@@ -37,7 +38,7 @@ unique-into lifetimes text order fates a b a′ b′ r s p q =
     )
 
 pub unique-plan : (text order fates : List ℕ) (begin : ℕ × ℕ) (r s : Planned) (b b′ : List ℕ)
-    → PlannedAs text order fates begin r b → PlannedAs text order fates begin s b′
+    → PlannedAs (read text) order fates begin r b → PlannedAs (read text) order fates begin s b′
     → (now (r .plan) ≡ now (s .plan)) × (ptr (r .plan) ≡ ptr (s .plan)) × (r .decision ≡ s .decision) × (b ≡ b′)
 unique-plan text order fates begin r s b b′ p q = (
   p .plan ∙ sym (q .plan),
@@ -50,5 +51,5 @@ unique-plan text order fates begin r s b b′ p q = (
 module _ {M : Type 1} (𝓤 : URA M) (H : Heap 𝓤) (A : Atoms 𝓤) (mem : Memory → SProp 𝓤) (run : Routine → Fun 𝓤) (κs : Lfts 3) where
   pub plan-says : (text order fates fates′ : RefT (List ℕ)) (spent : Gone) (r : Planned)
       → plan.clauses 𝓤 H A mem run κs (text, (order, (fates, tt))) .ensures tt r (text, (spent, (fates′, tt)))
-      ≡ fact 𝓤 (PlannedAs (now text) (now order) (now fates) (ptr order) r (now fates′))
+      ≡ fact 𝓤 (PlannedAs (read (now text)) (now order) (now fates) (ptr order) r (now fates′))
   plan-says text order fates fates′ spent r = refl

@@ -7,11 +7,11 @@ use mathlib.Core.Path.{_≡_, refl, sym, ap, _∙_}
 use Prim.Native.Nat.{ℕ}
 use native.Mathlib.Omega.{arith}
 use lib.ListN.{getD, length, replicate, take}
-use Rattle.laws.proofs.Tables.{hold, job, table, twoSpeeds}
+use Rattle.grammar.proofs.Tables.{hold, job, table, twoSpeeds}
 use Rattle.laws.proofs.Unique.{refusal-not-0}
 use Rattle.rules.specs.Answers.{Answer, good}
 use Rattle.rules.specs.Case.{right}
-use Rattle.rules.specs.Plan.{AfterPlanning, Course, course, energyAt, inPlan, jobsOf, leavesAll, leavesOf, leavesPlan, numbersOf, planning, speedFor, start, tooSmall, turns}
+use Rattle.rules.specs.Plan.{AfterPlanning, Course, course, energyAt, inPlan, leavesAll, leavesOf, leavesPlan, numbersOf, planning, planningOfUpTo, speedFor, noTurnYet, tooSmallUpTo, turns, runOrder}
 use Rattle.rules.specs.Refusals.{Taken, read, refusedAt, taken}
 use Rattle.rules.specs.TableText.{Records, mostJobs, nth, padded, textOf}
 use Rattle.rules.specs.declared.Refusal.{Refusal}
@@ -45,11 +45,11 @@ left-of-S : planning (textWith 2500000000) marked marked
       order = padded mostJobs 0 (3 ∷ 2 ∷ 1 ∷ []);
       fates = padded mostJobs 0 (1 ∷ 1 ∷ 1 ∷ 5 ∷ 2 ∷ []);
     }
-unfolding right planning leavesOf leavesPlan tooSmall
+unfolding right planningOfUpTo leavesOf leavesPlan tooSmallUpTo
 left-of-S = refl
 
 count-of-less : nth (planning (textWith 2499999999) marked marked .answer .values) 0 ≡ 2
-unfolding right planning leavesOf leavesPlan tooSmall
+unfolding right planningOfUpTo leavesOf leavesPlan tooSmallUpTo
 count-of-less = refl
 
 -- 1. "a planner that refuses every table": whatever number and line it tells for a text and its lent buffers, and whatever it
@@ -93,11 +93,11 @@ untouched-excluded answers keeps =
 
 -- 4. "one that takes a real turn for the first job and marks the rest 5": the course of one turn, and 1 or 5 for each job
 abbrev afterFirst : Records → Course
-afterFirst t = course t (take 1 (turns t)) start
+afterFirst t = course t (take 1 (turns t)) noTurnYet
 
 abbrev firstOf : Taken → List ℕ → List ℕ → AfterPlanning
 firstOf (taken t) order fates =
-    let js = jobsOf (afterFirst t .plan) in
+    let js = runOrder t (afterFirst t .plan) in
     let speed = speedFor t js in
     record {
       answer = good (length js ∷ speed .mhz ∷ energyAt speed js ∷ []);

@@ -1,4 +1,4 @@
--- What the planner promises.
+-- What the planner promises, of what was taken: the records of a text or its refusal.
 use mathlib.Core.List.{List, _++_}
 use mathlib.Core.Path.{_≡_}
 use Prim.Native.Nat.{ℕ}
@@ -6,19 +6,20 @@ use denote.Ref.{now, ptr}
 use lib.ListN.{drop, length}
 use Rattle.planner.specs.declared.Planned.{Planned}
 use Rattle.rules.specs.Answers.{decisionSays}
-use Rattle.rules.specs.Plan.{partOf, planning}
+use Rattle.rules.specs.Plan.{partOf, planningOf}
+use Rattle.rules.specs.Refusals.{Taken}
 
 -- `plan`: the part holds the first count places of what `plan_into` leaves and begins where the order buffer begins; the
 -- decision; and the fate buffer whole. (Of the order buffer behind the part `plan_into` speaks.)
-pub record PlannedAs (text order fates : List ℕ) (begin : ℕ × ℕ) (r : Planned) (fates′ : List ℕ) : Type 0 where
-  pub plan : now (r .plan) ≡ partOf (planning text order fates)
+pub record PlannedAs (k : Taken) (order fates : List ℕ) (begin : ℕ × ℕ) (r : Planned) (fates′ : List ℕ) : Type 0 where
+  pub plan : now (r .plan) ≡ partOf (planningOf k order fates)
   pub begins : ptr (r .plan) ≡ begin
-  pub decided : decisionSays (r .decision) ≡ planning text order fates .answer
-  pub fates-left : fates′ ≡ planning text order fates .fates
+  pub decided : decisionSays (r .decision) ≡ planningOf k order fates .answer
+  pub fates-left : fates′ ≡ planningOf k order fates .fates
 
 -- `plan_into`, and then `hand_back` of the order buffer that it left: the part, where it begins, and every place of the buffer;
 -- behind the part they are as `plan_into` left them, for `hand_back` stores nothing
-pub record Together (text order fates : List ℕ) (begin : ℕ × ℕ) (order′ part : List ℕ) (at : ℕ × ℕ) : Type 0 where
-  pub part-is : part ≡ partOf (planning text order fates)
+pub record Together (k : Taken) (order fates : List ℕ) (begin : ℕ × ℕ) (order′ part : List ℕ) (at : ℕ × ℕ) : Type 0 where
+  pub part-is : part ≡ partOf (planningOf k order fates)
   pub begins : at ≡ begin
-  pub every-place : part ++ drop (length part) order′ ≡ planning text order fates .order
+  pub every-place : part ++ drop (length part) order′ ≡ planningOf k order fates .order

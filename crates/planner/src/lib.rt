@@ -11,6 +11,7 @@ ghost use denote.Ref.{ptr};
 ghost use Rattle.planner.specs.Promises.{PlannedAs};
 ghost use Rattle.plans.specs.Promises.{leaves};
 ghost use Rattle.rules.specs.Plan.{planning};
+ghost use Rattle.rules.specs.Refusals.{read};
 
 // The filled front part of the lent order buffer, as long as the plan, and the decision beside it.
 pub struct Planned<'a> {
@@ -39,7 +40,7 @@ pub fn plan_into(text: &[u8], order: &mut [u64], fates: &mut [u64]) -> Decision
 
 // The planner as document 01 names it.
 pub fn plan<'a>(text: &[u8], order: &'a mut [u64], fates: &mut [u64]) -> Planned<'a>
-    ensures { λ r. ⌜ PlannedAs (now (text .entry)) (now (order .entry)) (now (fates .entry)) (ptr (order .entry)) r (now (fates .exit)) ⌝ }
+    ensures { λ r. ⌜ PlannedAs (read (now (text .entry))) (now (order .entry)) (now (fates .entry)) (ptr (order .entry)) r (now (fates .exit)) ⌝ }
 {
     let decision = plan_into(text, order, fates);
     Planned {

@@ -3,24 +3,25 @@
 use mathlib.Core.Bool.{cond}
 use mathlib.Core.List.{List}
 use mathlib.Core.Path.{_≡_, refl, sym, ap, _∙_}
-use Prim.Native.Nat.{ℕ, _*_}
+use Prim.Native.Nat.{ℕ}
 use native.Mathlib.Omega.{arith}
 use lib.ListN.{getD, take}
 use Rattle.columns.specs.Columns.{jobsAt}
 use Rattle.columns.specs.declared.Terms.{Terms}
-use Rattle.entries.specs.Promises.{Summed}
 use Rattle.plans.proofs.Courses.{fates-at-end}
 use Rattle.plans.specs.Courses.{jobAt}
-use Rattle.plans.specs.Promises.{ChosenSpeed, Concluded, Marked, Placed}
-use Rattle.plans.specs.declared.Course.{Course as Ran}
+use Rattle.plans.specs.Promises.{Concluded, Marked, PlacesOfJobs}
+use Rattle.plans.specs.declared.CourseTaken.{CourseTaken}
 use Rattle.plans.specs.declared.Decided.{Decided}
-use Rattle.rules.specs.Plan.{courseOf, cyclesOf, energyAt, fatePlanned, inPlan, jobsOf, planFrom, planOf, speedFor}
+use Rattle.rules.specs.Plan.{courseOf, energyAt, fatePlanned, inPlan, planFrom, planOf, speedFor, runOrder}
 use Rattle.rules.specs.TableText.{Records}
 use Rattle.rules.specs.declared.Job.{Job}
 use Rattle.rules.specs.declared.Speed.{Speed}
+use Rattle.speeds.specs.Promises.{ChosenSpeed}
+use Rattle.speeds.specs.declared.Chosen.{Chosen}
 
 -- the rules' plan, part by part
-jobs-planned : (t : Records) → planOf t .jobs ≡ jobsOf (courseOf t .plan)
+jobs-planned : (t : Records) → planOf t .jobs ≡ runOrder t (courseOf t .plan)
 unfolding planOf planFrom
 jobs-planned t = refl
 
@@ -29,40 +30,32 @@ unfolding planOf planFrom
 speed-planned t js e = ap (speedFor t) e
 
 energy-planned : (t : Records) (js : List Job) (f : Speed) → js ≡ planOf t .jobs → f ≡ planOf t .speed
-    → cyclesOf js * f .cost ≡ planOf t .energy
-unfolding planOf planFrom energyAt
+    → energyAt f js ≡ planOf t .energy
+unfolding planOf planFrom
 energy-planned t js f e g = rw (e, g)
 
-module _ (speeds : List Speed) (speed-count : ℕ) (cycles termination : List ℕ) (course : Ran) (terms : Terms)
-    (total : ℕ) (speed : Speed) (fates : List ℕ) where
+module _ (speeds : List Speed) (speed-count : ℕ) (cycles termination : List ℕ) (course : CourseTaken) (terms : Terms)
+    (chosen : Chosen) (fates : List ℕ) where
   abbrev planned : List ℕ
-  planned = take (course .count) (course .places)
+  planned = take (course .totals .count) (course .places)
 
   abbrev told : Decided
   told = record {
     places = course .places;
-    count = course .count;
+    count = course .totals .count;
     fates = fates;
-    speed = speed;
-    energy = total * speed .cost;
+    speed = chosen .speed;
+    energy = chosen .energy;
   }
 
-  pub steps-8-and-9 : Placed (course .count) (course .places) → Summed planned cycles total
-      → ChosenSpeed speeds speed-count planned cycles termination total (terms .clock) (terms .budget) speed
+  pub steps-8-and-9 : PlacesOfJobs (course .totals .count) (course .places)
+      → ChosenSpeed speeds speed-count planned cycles termination terms chosen
       → Marked planned (course .fates) fates → Concluded speeds speed-count cycles termination course terms told
-  steps-8-and-9 placed summed chosen marked = record {
-    decided = λ t valid of speeds-of cycles-of termination-of by.
+  steps-8-and-9 placed by-rule marked = record {
+    decided = λ t valid of by.
         let jobs : jobsAt (t .jobs) planned ≡ planOf t .jobs = by .jobs ∙ sym (jobs-planned t) in
-        let sum : total ≡ cyclesOf (jobsAt (t .jobs) planned) = summed .total (t .jobs) cycles-of in
-        let found : speed ≡ planOf t .speed =
-        chosen .speed t speeds-of (record {
-          cycles-of = cycles-of;
-          termination-of = termination-of;
-          total-of = sum;
-          clock-of = of .clock;
-          budget-of = of .budget;
-        })
-        ∙ speed-planned t (jobsAt (t .jobs) planned) jobs in
+        let found : chosen .speed ≡ planOf t .speed =
+        by-rule .speed t of ∙ speed-planned t (jobsAt (t .jobs) planned) jobs in
         record {
           placed = placed;
           jobs = jobs;
@@ -72,7 +65,6 @@ module _ (speeds : List Speed) (speed-count : ℕ) (cycles termination : List �
               ∙ ap (cond (inPlan (jobAt t i) (courseOf t .plan)) fatePlanned) (by .fates i h)
               ∙ fates-at-end t valid i h;
           speed = found;
-          energy =
-              ap (λ n. n * speed .cost) sum ∙ energy-planned t (jobsAt (t .jobs) planned) speed jobs found;
+          energy = by-rule .energy t of ∙ energy-planned t (jobsAt (t .jobs) planned) (chosen .speed) jobs found;
         };
   }

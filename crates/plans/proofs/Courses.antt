@@ -13,12 +13,12 @@ use lib.Seq.{getD-set-other, getD-set-same, take-suc}
 use Rattle.chains.specs.Stage.{FatesSoFar, fateSoFar}
 use Rattle.laws.proofs.Choices.{split}
 use Rattle.laws.proofs.Elements.{each-at-place, map-append}
-use Rattle.laws.proofs.Jobs.{jobs-listed, left-on-time, left-stays, listed-has}
+use Rattle.steps.proofs.Jobs.{jobs-listed, left-on-time, left-stays, listed-has}
 use Rattle.laws.proofs.Numbered.{same-place}
-use Rattle.laws.proofs.Planned.{planned-left}
+use Rattle.steps.proofs.Planned.{planned-left}
 use Rattle.plans.specs.Courses.{FatesByTurn, courseBy, fateByTurn, jobAt, turnAt}
 use Rattle.rules.specs.Lists.{Rising}
-use Rattle.rules.specs.Plan.{Course, Outcome, Turn, after, course, courseOf, fateDeadlock, fateIn, fateLate, fatePlanned, fateTold, inPlan, lateIn, leavesItsRing, ownFate, same, start, turn, turnOf}
+use Rattle.rules.specs.Plan.{Course, Outcome, Turn, after, course, courseOf, fateDeadlock, fateIn, fateLate, fatePlanned, fateTold, inPlan, lateIn, leavesItsRing, ownFate, same, noTurnYet, turn, turnOf}
 use Rattle.rules.specs.TableText.{Records, noJob}
 use Rattle.rules.specs.Valid.{Valid}
 use Rattle.rules.specs.declared.Job.{Job}
@@ -35,9 +35,9 @@ one-more-taken order n h = rw add-one (take-suc order n 0 h)
 pub one-more-turn : (t : Records) (order : List ℕ) (n : ℕ) → n < length order
     → courseBy t order (n + 1) ≡ after t (turnAt t (getD order n 0)) (courseBy t order n)
 one-more-turn t order n h =
-    ap (λ ps. course t (map (turnAt t) ps) start) (one-more-taken order n h)
-    ∙ ap (λ is. course t is start) (map-append (turnAt t) (take n order) (getD order n 0 ∷ []))
-    ∙ turn-behind t (map (turnAt t) (take n order)) (turnAt t (getD order n 0)) start
+    ap (λ ps. course t (map (turnAt t) ps) noTurnYet) (one-more-taken order n h)
+    ∙ ap (λ is. course t is noTurnYet) (map-append (turnAt t) (take n order) (getD order n 0 ∷ []))
+    ∙ turn-behind t (map (turnAt t) (take n order)) (turnAt t (getD order n 0)) noTurnYet
 
 -- what the turn leaves
 pub plan-after : (t : Records) (i : Turn) (c : Course) (o : Outcome) → turn t i (c .plan) ≡ o → after t i c .plan ≡ o .plan
@@ -90,8 +90,8 @@ module _ (t : Records) (rising : Rising (λ j. j .number) (t .jobs)) (c : Course
       ∙ sym (own-fate-after t (turnAt t place) c (jobAt t i)))
 
 -- before the first turn
-pub fates-at-start : (t : Records) (fates : List ℕ) → FatesSoFar t fates → FatesByTurn t start fates
-unfolding fateByTurn fateSoFar ownFate fateTold start
+pub fates-at-start : (t : Records) (fates : List ℕ) → FatesSoFar t fates → FatesByTurn t noTurnYet fates
+unfolding fateByTurn fateSoFar ownFate fateTold noTurnYet
 fates-at-start t fates e i h = e i h
 
 planned-by : (late ring planned : Bool) (own : ℕ) → (planned ≡ true → (late ≡ false) × (ring ≡ false))

@@ -6,14 +6,15 @@ use Prim.Native.Nat.{ℕ, zero, suc, _-_, _≤_, _<_}
 use native.Mathlib.Omega.{arith}
 use lib.ListN.{getD, length, take}
 use lib.Seq.{getD-take, length-take-le}
-use Rattle.columns.proofs.Ranges.{ColumnsInRange, columns-in-range}
+use Rattle.columns.proofs.Ranges.{columns-in-range}
 use Rattle.columns.specs.Columns.{ColumnsOf, TermsOf}
+use Rattle.columns.specs.Ranges.{ColumnsInRange, TermsInRange}
 use Rattle.columns.specs.declared.Columns.{Columns}
 use Rattle.columns.specs.declared.Terms.{Terms}
 use Rattle.laws.proofs.Elements.{each-at-place}
-use Rattle.laws.proofs.Ranges.{SpeedRanges, clock-ranges, hold-ranges, speed-ranges}
-use Rattle.plans.specs.Promises.{Concludable, Placed, Plannable, Runnable}
-use Rattle.plans.specs.declared.Course.{Course as Ran}
+use Rattle.grammar.proofs.Ranges.{SpeedRanges, clock-ranges, hold-ranges, speed-ranges}
+use Rattle.plans.specs.Promises.{Concludable, PlacesOfJobs, Plannable, CourseRunnable}
+use Rattle.plans.specs.declared.CourseTaken.{CourseTaken}
 use Rattle.rules.specs.Lists.{Each, lastOr}
 use Rattle.rules.specs.Plan.{topOf}
 use Rattle.rules.specs.TableText.{Record, inRange, mostHolds, mostJobs, mostSpeeds, noHold, noSpeed, recordsOf}
@@ -81,58 +82,51 @@ module _ (table : Table) (p : Plannable table) (all-speeds : length (table .spee
       (each-of-first {P = λ f. inRange (Record.F f) ≡ true} noSpeed (table .speeds) (table .«speed_count»)
       (omega (arith, p .few-speeds, all-speeds)) (p .valid .speed-ranges) i h)
 
-  clock-in-range : table .clock ≤ 1000000000
+  terms-in-range : TermsInRange terms
   unfolding recordsOf
-  clock-in-range = clock-ranges (table .clock) (table .budget) (p .valid .clock-range) .0
+  terms-in-range =
+      let last = speed-in-range (table .«speed_count» - 1) (omega (arith, some-speed)) in
+      record {
+        clock = clock-ranges (table .clock) (table .budget) (p .valid .clock-range) .0;
+        mhz = last .mhz-to;
+        cost = last .cost-to;
+        job-count = p .few-jobs;
+      }
 
   module _ (columns : Columns) (of : ColumnsOf (recordsOf table .jobs) columns) where
     ranges : ColumnsInRange columns
     ranges = columns-in-range (recordsOf table .jobs) columns (p .valid .job-ranges) of
 
     pub table-runnable : length (table .holds) ≡ mostHolds
-        → Runnable (table .holds) (table .«hold_count») (columns .cycles) (columns .worth) (columns .critical)
-        (columns .termination) (columns .request) terms
+        → CourseRunnable (table .holds) (table .«hold_count») columns terms
     unfolding recordsOf
-    table-runnable all-holds =
-        let last = speed-in-range (table .«speed_count» - 1) (omega (arith, some-speed)) in
-        record {
-          stageable =
-              record {
-                holdable =
-                    record {
-                      few-holds = p .few-holds;
-                      few-jobs = p .few-jobs;
-                      resources-small = λ i h.
-                          hold-ranges (getD (table .holds) i noHold)
-                          (each-of-first {P = λ k. inRange (Record.H k) ≡ true} noHold (table .holds)
-                          (table .«hold_count») (omega (arith, p .few-holds, all-holds)) (p .valid .hold-ranges) i h)
-                          .resource-to;
-                    };
-                timeable =
-                    record {
-                      few-jobs = p .few-jobs;
-                      cycles-small = ranges .cycles;
-                      termination-small = ranges .termination;
-                      clock-small = clock-in-range;
-                      mhz-small = last .mhz-to;
-                    };
-                worth-small = ranges .worth;
-                request-small = ranges .request;
-              };
-          critical-small = ranges .critical;
-          cost-small = last .cost-to;
-        }
+    table-runnable all-holds = record {
+      holdable =
+          record {
+            few-holds = p .few-holds;
+            few-jobs = p .few-jobs;
+            resources-small = λ i h.
+                hold-ranges (getD (table .holds) i noHold)
+                (each-of-first {P = λ k. inRange (Record.H k) ≡ true} noHold (table .holds) (table .«hold_count»)
+                (omega (arith, p .few-holds, all-holds)) (p .valid .hold-ranges) i h)
+                .resource-to;
+          };
+      columns-small = ranges;
+      terms-small = terms-in-range;
+    }
 
-    pub table-concludable : (course : Ran) → Placed (course .count) (course .places)
+    pub table-concludable : (course : CourseTaken) → PlacesOfJobs (course .totals .count) (course .places)
         → Concludable (table .speeds) (table .«speed_count») (columns .cycles) (columns .termination) course terms
     table-concludable course placed = record {
       placed = placed;
-      few-speeds = p .few-speeds;
-      mhz-small = λ i h. speed-in-range i h .mhz-to;
-      cost-small = λ i h. speed-in-range i h .cost-to;
-      cycles-small = ranges .cycles;
-      termination-small = ranges .termination;
-      clock-small = clock-in-range;
+      speeds-small =
+          record {
+            few = p .few-speeds;
+            mhz = λ i h. speed-in-range i h .mhz-to;
+            cost = λ i h. speed-in-range i h .cost-to;
+          };
+      runs-small = record { cycles-small = ranges .cycles; termination-small = ranges .termination };
+      terms-small = terms-in-range;
     }
 
 -- in a valid table the count is that of the jobs

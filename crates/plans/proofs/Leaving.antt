@@ -8,7 +8,7 @@ use lib.ListN.{getD, length, take}
 use lib.Seq.{length-take-le}
 use Rattle.columns.proofs.Entries.{length-jobs-at}
 use Rattle.columns.specs.Columns.{Column, jobsAt}
-use Rattle.laws.proofs.Planned.{fates-alone}
+use Rattle.steps.proofs.Planned.{fates-alone}
 use Rattle.plans.specs.Promises.{DecidedAs, leaves}
 use Rattle.plans.specs.declared.Decided.{Decided}
 use Rattle.rules.specs.Plan.{courseOf, fateIn, fatesOf, leavesPlan, numbersOf, planFrom, planOf}

@@ -1,7 +1,5 @@
-mod Speeds
 mod Marks
 mod Courses
-mod Padding
 mod Concluding
 mod Taking
 mod Running

@@ -5,51 +5,57 @@ use mathlib.Core.Path.{_≡_, sym, ap}
 use Prim.Native.Nat.{ℕ}
 use native.Mathlib.Omega.{arith}
 use lib.ListN.{length, take}
-use Rattle.columns.specs.Columns.{AllBelow}
+use Rattle.columns.specs.Columns.{AllBelow, RunsOf}
+use Rattle.columns.specs.declared.Columns.{Columns}
 use Rattle.columns.specs.declared.Terms.{Terms}
 use Rattle.plans.specs.Courses.{courseBy, turnAt}
 use Rattle.plans.specs.Promises.{CourseRun, TurnsTaken}
-use Rattle.plans.specs.declared.Course.{Course as Ran}
+use Rattle.plans.specs.declared.CourseTaken.{CourseTaken}
 use Rattle.ranks.specs.Promises.{RatioColumns, TurnOrder}
 use Rattle.ranks.specs.declared.Ratios.{Ratios}
 use Rattle.ranks.specs.declared.Turns.{Turns}
 use Rattle.remaining.specs.Promises.{Staged}
-use Rattle.remaining.specs.declared.Remaining.{Remaining as Left}
-use Rattle.rules.specs.Plan.{course, courseOf, start, turns}
+use Rattle.remaining.specs.declared.Left.{Left}
+use Rattle.rules.specs.Plan.{course, courseOf, noTurnYet, turns}
 use Rattle.rules.specs.TableText.{Records}
 use Rattle.rules.specs.declared.Hold.{Hold}
+use Rattle.trials.specs.Promises.{columnsRead}
 
 -- in the order of turns, the course is that of the table
 course-in-order : (t : Records) (order : List ℕ) (n : ℕ) → map (turnAt t) (take n order) ≡ turns t
     → courseBy t order n ≡ courseOf t
 unfolding courseOf
-course-in-order t order n e = ap (λ is. course t is start) e
+course-in-order t order n e = ap (λ is. course t is noTurnYet) e
 
 below-as : (n m : ℕ) (xs : List ℕ) → n ≡ m → AllBelow n xs → AllBelow m xs
 below-as n m xs e below i h = omega (arith, below i h)
 
-module _ (holds : List Hold) (hold-count : ℕ) (number cycles worth critical termination request : List ℕ) (terms : Terms)
-    (left : Left) (ratios : Ratios) (order : Turns) (r : Ran) where
-  pub steps-1-to-7 : Staged holds hold-count number cycles worth termination request terms left
-      → RatioColumns (left .fates) (left .waits) cycles worth termination terms ratios
-      → TurnOrder (left .fates) number (ratios .over) (ratios .under) (terms .«job_count») order
-      → TurnsTaken (order .order) (order .count) (ratios .over) (left .waits) critical cycles termination (left .fates) terms r
-      → CourseRun holds hold-count number cycles worth critical termination request terms r
+module _ (holds : List Hold) (hold-count : ℕ) (c : Columns) (terms : Terms) (left : Left) (ratios : Ratios) (order : Turns)
+    (r : CourseTaken) where
+  pub steps-1-to-7 : Staged holds hold-count (c .number) (c .cycles) (c .worth) (c .termination) (c .request) terms left
+      → RatioColumns (left .fates) (left .waits) (c .cycles) (c .worth) (c .termination) terms ratios
+      → TurnOrder (left .fates) (c .number) (ratios .over) (ratios .under) (terms .«job_count») order
+      → TurnsTaken order (ratios .over) (columnsRead (left .waits) (c .critical) (c .cycles) (c .termination)) (left .fates)
+      terms r
+      → CourseRun holds hold-count c terms r
   steps-1-to-7 staged ratios-of ordered taken = record {
     placed = taken .placed;
     course = λ t valid of holds-of columns.
-        let stage = staged .stage t valid of holds-of (columns .number) (columns .cycles) (columns .worth)
-        (columns .termination) (columns .request) in
-        let told = ratios-of .ratios t of (stage .waits-left) (columns .cycles) (columns .worth) (columns .termination) in
+        let runs : RunsOf (t .jobs) (c .cycles) (c .termination) =
+        record { cycles-of = columns .cycles; termination-of = columns .termination } in
+        let stage = staged .stage t valid of holds-of (columns .number) runs (columns .worth) (columns .request) in
+        let told = ratios-of .ratios t of (stage .waits-left) runs (columns .worth) in
         let in-order = ordered .in-order t valid (sym (of .job-count)) (columns .number) (stage .fates-so-far) told in
         rw (sym (course-in-order t (order .order) (order .count) in-order))
         (taken .course t (record {
           valid = valid;
           terms-of = of;
-          waits-left = stage .waits-left;
-          critical-of = columns .critical;
-          cycles-of = columns .cycles;
-          termination-of = columns .termination;
+          columns-of =
+              record {
+                waits-left = stage .waits-left;
+                critical-of = columns .critical;
+                runs-of = runs;
+              };
           fates-so-far = stage .fates-so-far;
           of-jobs =
               below-as (terms .«job_count») (length (t .jobs)) (take (order .count) (order .order)) (of .job-count)

@@ -13,61 +13,66 @@ use Rattle.entries.proofs.Found.{in-plan-among}
 use Rattle.plans.proofs.Courses.{fates-after, fates-at-start, one-more-turn, plan-after}
 use Rattle.plans.specs.Courses.{FatesByTurn, courseBy, jobAt, turnAt}
 use Rattle.plans.specs.Promises.{CourseBy, TurnsOf}
-use Rattle.plans.specs.declared.Course.{Course as Ran}
+use Rattle.plans.specs.declared.CourseTaken.{CourseTaken}
+use Rattle.ranks.specs.declared.Turns.{Turns}
 use Rattle.rules.specs.Lists.{Rising}
-use Rattle.rules.specs.Plan.{Course, Outcome, course, inPlan, jobsOf, start, turn}
+use Rattle.rules.specs.Plan.{Course, Outcome, course, inPlan, jobsOf, noTurnYet, turn}
 use Rattle.rules.specs.TableText.{Records}
-use Rattle.trials.specs.Promises.{OfJobs, TurnOf, TurnTaken, planIn}
-use Rattle.trials.specs.declared.Turned.{Turned}
+use Rattle.trials.specs.Promises.{OfJobs, TurnOf, TurnTaken, planIn, PlanParts, TurnColumns, planParts}
+use Rattle.steps.proofs.RunOrder.{run-order}
+use Rattle.trials.specs.declared.JobInTurn.{JobInTurn}
 
 -- places, keys and fates stand for a course
-pub record OnCourse (t : Records) (c : Course) (count : ℕ) (places keys fates : List ℕ) : Type 0 where
-  pub plan : planIn (t .jobs) count places keys ≡ c .plan
-  pub of-jobs : OfJobs (t .jobs) count places
+pub record OnCourse (t : Records) (c : Course) (p : PlanParts) (fates : List ℕ) : Type 0 where
+  pub plan : planIn (t .jobs) p ≡ c .plan
+  pub of-jobs : OfJobs (t .jobs) p
   pub fates-by-turn : FatesByTurn t c fates
 
-module _ (t : Records) (order : List ℕ) (turn-count : ℕ) (over waits critical cycles termination so-far : List ℕ)
-    (terms : Terms) (of : TurnsOf t order turn-count over waits critical cycles termination so-far terms) where
-  pub at-start : (places keys : List ℕ) → OnCourse t (courseBy t order 0) 0 places keys so-far
-  unfolding course start
+module _ (t : Records) (turns : Turns) (over : List ℕ) (columns : TurnColumns) (so-far : List ℕ) (terms : Terms)
+    (of : TurnsOf t turns over columns so-far terms) where
+  abbrev order : List ℕ
+  order = turns .order
+
+  pub at-start : (places keys : List ℕ)
+      → OnCourse t (courseBy t (turns .order) 0) (planParts (record { count = 0 }) places keys) so-far
+  unfolding course noTurnYet
   at-start places keys = record {
     plan = refl;
     of-jobs = λ i h. absurd (omega arith);
     fates-by-turn = fates-at-start t so-far (of .fates-so-far);
   }
 
-  module _ (i : ℕ) (turns-there : turn-count ≤ length order) (h : i < turn-count) where
+  module _ (i : ℕ) (turns-there : turns .count ≤ length order) (h : i < turns .count) where
     abbrev place : ℕ
     place = getD order i 0
 
     of-job : place < length (t .jobs)
     of-job =
-        let e = getD-take turn-count order i 0 h in
-        omega (arith, e, of .of-jobs i (omega (arith, length-take-le turn-count order turns-there)))
+        let e = getD-take (turns .count) order i 0 h in
+        omega (arith, e, of .of-jobs i (omega (arith, length-take-le (turns .count) order turns-there)))
 
     remains-so-far : fateSoFar t (jobAt t place) ≡ 0
     remains-so-far = sym (of .fates-so-far place of-job) ∙ of .remain i h
 
-    module _ (count : ℕ) (places keys fates : List ℕ) (on : OnCourse t (courseBy t order i) count places keys fates) where
-      turn-of : TurnOf t count place (getD over place 0) waits critical cycles termination places terms
+    abbrev job : JobInTurn
+    job = record { place = place; over = getD over place 0 }
+
+    module _ (p : PlanParts) (fates : List ℕ) (on : OnCourse t (courseBy t order i) p fates) where
+      turn-of : TurnOf t p job columns terms
       turn-of = record {
         valid = of .valid;
         terms-of = of .terms-of;
-        waits-left = of .waits-left;
-        critical-of = of .critical-of;
-        cycles-of = of .cycles-of;
-        termination-of = of .termination-of;
+        columns-of = of .columns-of;
         of-jobs = on .of-jobs;
         place-of-job = of-job;
         over-of = of .over-of place of-job (of .remain i h);
       }
 
-      pub one-more-taken : (places' keys' : List ℕ) (r : Turned) → place < length fates
-          → TurnTaken count place (getD over place 0) waits critical cycles termination places keys places' keys' terms r
-          → OnCourse t (courseBy t order (i + 1)) (r .count) places' keys' (set fates place (r .fate))
-      one-more-taken places' keys' r l taken =
+      pub one-more-taken : (q : PlanParts) (fate : ℕ) → place < length fates → TurnTaken p job columns terms q fate
+          → OnCourse t (courseBy t order (i + 1)) q (set fates place fate)
+      one-more-taken q fate l taken =
           let before = courseBy t order i in
-          let left : Outcome = record { plan = planIn (t .jobs) (r .count) places' keys'; fate = r .fate } in
+          let left : Outcome = record { plan = planIn (t .jobs) q; fate = fate } in
           let goes : turn t (turnAt t place) (before .plan) ≡ left =
           ap (turn t (turnAt t place)) (sym (on .plan)) ∙ sym (taken .outcome t turn-of) in
           let more = one-more-turn t order i (omega arith) in
@@ -76,17 +81,17 @@ module _ (t : Records) (order : List ℕ) (turn-count : ℕ) (over waits critica
             of-jobs = taken .of-jobs t turn-of;
             fates-by-turn =
                 rw more
-                (fates-after t (of .valid .jobs-rise) before fates place (r .fate) of-job l remains-so-far
+                (fates-after t (of .valid .jobs-rise) before fates place fate of-job l remains-so-far
                 (ap (λ (o : Outcome). o .fate) goes) (on .fates-by-turn));
           }
 
 -- after the last turn
-pub at-end : (t : Records) → (c : Course) (r : Ran) (keys : List ℕ) → Rising (λ j. j .number) (t .jobs)
-    → OnCourse t c (r .count) (r .places) keys (r .fates) → CourseBy t c r
+pub at-end : (t : Records) → (c : Course) (r : CourseTaken) (keys : List ℕ) → Rising (λ j. j .number) (t .jobs)
+    → OnCourse t c (planParts (r .totals) (r .places) keys) (r .fates) → CourseBy t c r
 at-end t c r keys rising on =
-    let ps = take (r .count) (r .places) in
+    let ps = take (r .totals .count) (r .places) in
     record {
-      jobs = sym (jobs-of-entries (t .jobs) keys ps) ∙ ap jobsOf (on .plan);
+      jobs = sym (jobs-of-entries (t .jobs) keys ps) ∙ ap jobsOf (on .plan) ∙ sym (run-order t (c .plan));
       planned = λ i h.
           sym (in-plan-among (t .jobs) rising keys i h ps (on .of-jobs)) ∙ ap (inPlan (jobAt t i)) (on .plan);
       fates = on .fates-by-turn;

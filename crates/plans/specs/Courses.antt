@@ -4,7 +4,7 @@ use mathlib.Core.List.{List, map}
 use mathlib.Core.Path.{_≡_}
 use Prim.Native.Nat.{ℕ, _<_}
 use lib.ListN.{getD, length, take}
-use Rattle.rules.specs.Plan.{Course, Turn, course, fateDeadlock, fateLate, lateIn, leavesItsRing, ownFate, start, turnOf}
+use Rattle.rules.specs.Plan.{Course, Turn, course, fateDeadlock, fateLate, lateIn, leavesItsRing, ownFate, noTurnYet, turnOf}
 use Rattle.rules.specs.TableText.{Records, noJob}
 use Rattle.rules.specs.declared.Job.{Job}
 
@@ -18,7 +18,7 @@ turnAt t p = turnOf t (jobAt t p)
 
 -- the course of the first n turns of an order of places
 abbrev pub courseBy : Records → List ℕ → ℕ → Course
-courseBy t order n = course t (map (turnAt t) (take n order)) start
+courseBy t order n = course t (map (turnAt t) (take n order)) noTurnYet
 
 -- the fate of step 1 or 2, or that of the job's own turn, or 0 where it had none
 unfoldable pub fateByTurn : Records → Course → Job → ℕ

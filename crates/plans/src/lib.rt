@@ -1,10 +1,10 @@
-// Steps 5 to 9 of "From jobs to a plan": the course of turns, the fates, the speed, and the plan of a valid table.
+// Steps 5 to 9 of "From jobs to a plan": the course of turns, the fates, and the plan of a valid table.
 use columns::Columns;
 use columns::Terms;
 use columns::columns_of;
-use entries::copy_front;
-use entries::in_time;
-use entries::total_cycles;
+use filling::put_fates;
+use filling::put_order;
+use ranks::Turns;
 use ranks::chain_ratios;
 use ranks::turn_order;
 use remaining::take_out;
@@ -16,21 +16,24 @@ use rules::MOST_JOBS;
 use rules::MOST_SPEEDS;
 use rules::Speed;
 use rules::Table;
+use speeds::choose_speed;
+use trials::JobInTurn;
 use trials::NOT_PLANNED;
+use trials::Totals;
 use trials::turn;
-ghost use mathlib.Core.List.{map};
 ghost use mathlib.Core.Path.{_≡_};
 ghost use Prim.Native.Nat.{_≤_};
-ghost use lib.ListN.{getD, length, replicate};
+ghost use lib.ListN.{length};
 ghost use Rattle.columns.specs.Columns.{AllBelow, ColumnsOf};
-ghost use Rattle.plans.specs.Promises.{ChosenSpeed, Concludable, Concluded, CourseRun, DecidedAs, Marked, Plannable, Qualifiable, Qualifies, Runnable, Speedable, Takeable, TurnsTaken, leaves};
+ghost use Rattle.plans.specs.Promises.{Concludable, Concluded, CourseRun, DecidedAs, Marked, Plannable, CourseRunnable, Takeable, TurnsTaken, besides, leaves};
 ghost use Rattle.rules.specs.Plan.{leavesPlan, planOf};
-ghost use Rattle.rules.specs.TableText.{mostJobs, padded, recordsOf};
+ghost use Rattle.rules.specs.TableText.{mostJobs, recordsOf};
+ghost use Rattle.trials.specs.Promises.{columnsRead};
 
-// What the course of turns leaves: the plan's places, how many they are, and the fate that each job's own turn gave.
-pub struct Course {
+// What the course of turns leaves: the plan's places, its totals, and the fate that each job's own turn gave.
+pub struct CourseTaken {
     pub places: [u64; MOST_JOBS],
-    pub count: usize,
+    pub totals: Totals,
     pub fates: [u64; MOST_JOBS],
 }
 
@@ -45,8 +48,7 @@ pub struct Decided {
 
 // Step 5, "Turns": each job of the order in its turn, from the empty plan.
 fn take_turns<'a>(
-    order: &'a [u64; MOST_JOBS],
-    turn_count: usize,
+    turns: Turns,
     over: &'a [u64; MOST_JOBS],
     waits: &'a [u64; MOST_JOBS],
     critical: &'a [u64; MOST_JOBS],
@@ -54,38 +56,41 @@ fn take_turns<'a>(
     termination: &'a [u64; MOST_JOBS],
     so_far: [u64; MOST_JOBS],
     terms: Terms,
-) -> Course
-    requires { ⌜ Takeable (now order) «turn_count» (now critical) (now cycles) (now termination) terms ⌝ }
-    ensures { λ r. ⌜ TurnsTaken (now (order .entry)) «turn_count» (now (over .entry)) (now (waits .entry)) (now (critical .entry)) (now (cycles .entry)) (now (termination .entry)) «so_far» terms r ⌝ }
+) -> CourseTaken
+    requires { ⌜ Takeable turns (columnsRead (now waits) (now critical) (now cycles) (now termination)) terms ⌝ }
+    ensures { λ r. ⌜ TurnsTaken turns (now (over .entry)) (columnsRead (now (waits .entry)) (now (critical .entry)) (now (cycles .entry)) (now (termination .entry))) «so_far» terms r ⌝ }
 {
     let mut places = [0; MOST_JOBS];
     let mut keys = [NOT_PLANNED; MOST_JOBS];
-    let mut spare = [0; MOST_JOBS];
-    let mut count = 0;
+    let mut kept = [0; MOST_JOBS];
+    let mut totals = Totals { count: 0 };
     let mut fates = so_far;
     let mut i = 0;
-    while i < turn_count {
-        let place = order[i] as usize;
+    while i < turns.count {
+        let place = turns.order[i] as usize;
+        let job = JobInTurn {
+            place,
+            over: over[place],
+        };
         let turned = turn(
             &mut places,
             &mut keys,
-            &mut spare[..],
-            count,
-            place,
-            over[place],
+            &mut kept,
+            totals,
+            job,
             waits,
             critical,
             cycles,
             termination,
             terms,
         );
-        count = turned.count;
+        totals = turned.totals;
         fates[place] = turned.fate;
         i += 1;
     }
-    Course {
+    CourseTaken {
         places,
-        count,
+        totals,
         fates,
     }
 }
@@ -105,95 +110,7 @@ fn mark_planned(fates: [u64; MOST_JOBS], places: &[u64]) -> [u64; MOST_JOBS]
     marked
 }
 
-// Step 9, "at which every entry still ends by its termination and all cycles × that speed's cost are within budget".
-fn qualifies<'a>(
-    speed: Speed,
-    places: &[u64],
-    cycles: &'a [u64; MOST_JOBS],
-    termination: &'a [u64; MOST_JOBS],
-    total: u64,
-    clock: u64,
-    budget: u64,
-) -> bool
-    requires { ⌜ Qualifiable speed (now places) (now cycles) (now termination) total clock ⌝ }
-    ensures { λ r. ⌜ Qualifies speed (now (places .entry)) (now (cycles .entry)) (now (termination .entry)) total clock budget r ⌝ }
-{
-    if budget < total * speed.cost {
-        return false;
-    }
-    in_time(places, cycles, termination, clock, speed.mhz)
-}
-
-// Step 9, "The lowest speed": they rise, so that it is the first that qualifies.
-fn choose_speed<'a>(
-    speeds: [Speed; MOST_SPEEDS],
-    speed_count: usize,
-    places: &[u64],
-    cycles: &'a [u64; MOST_JOBS],
-    termination: &'a [u64; MOST_JOBS],
-    total: u64,
-    clock: u64,
-    budget: u64,
-) -> Speed
-    requires { ⌜ Speedable speeds «speed_count» (now places) (now cycles) (now termination) total clock ⌝ }
-    ensures { λ r. ⌜ ChosenSpeed speeds «speed_count» (now (places .entry)) (now (cycles .entry)) (now (termination .entry)) total clock budget r ⌝ }
-{
-    let mut i = 0;
-    while i < speed_count {
-        let speed = speeds[i];
-        if qualifies(speed, places, cycles, termination, total, clock, budget) {
-            return speed;
-        }
-        i += 1;
-    }
-    Speed { mhz: 0, cost: 0 }
-}
-
-// "places after it hold 0"
-fn clear(part: &mut [u64])
-    ensures { λ _. ⌜ now (part .exit) ≡ replicate (length (now (part .entry))) 0 ⌝ }
-{
-    let mut i = 0;
-    while i < part.len() {
-        part[i] = 0;
-        i += 1;
-    }
-}
-
-// The numbers of the jobs at these places.
-fn put_numbers(part: &mut [u64], places: &[u64], number: &[u64; MOST_JOBS])
-    requires { ⌜ (length (now part) ≡ length (now places)) × AllBelow mostJobs (now places) ⌝ }
-    ensures { λ _. ⌜ now (part .exit) ≡ map (λ p. getD (now (number .entry)) p 0) (now (places .entry)) ⌝ }
-{
-    let mut i = 0;
-    while i < part.len() {
-        let place = places[i] as usize;
-        part[i] = number[place];
-        i += 1;
-    }
-}
-
-// "the plan is handed back as the front part of the lent order buffer, as job numbers; places after it hold 0".
-fn put_order(order: &mut [u64], places: &[u64], number: &[u64; MOST_JOBS])
-    requires { ⌜ (length (now places) ≤ length (now order)) × AllBelow mostJobs (now places) ⌝ }
-    ensures { λ _. ⌜ now (order .exit) ≡ padded (length (now (order .entry))) 0 (map (λ p. getD (now (number .entry)) p 0) (now (places .entry))) ⌝ }
-{
-    let count = places.len();
-    put_numbers(&mut order[..count], places, number);
-    clear(&mut order[count..]);
-}
-
-// "Fate places follow the J lines; places after the last hold 0."
-fn put_fates(out: &mut [u64], fates: &[u64])
-    requires { ⌜ length (now fates) ≤ length (now out) ⌝ }
-    ensures { λ _. ⌜ now (out .exit) ≡ padded (length (now (out .entry))) 0 (now (fates .entry)) ⌝ }
-{
-    let count = fates.len();
-    copy_front(out, fates, count);
-    clear(&mut out[count..]);
-}
-
-// Steps 1 to 7: the course of all turns.
+// Steps 1 to 7: the course of all turns. The columns are lent one by one: by value they would be copied once more.
 fn course_of<'a>(
     holds: [Hold; MOST_HOLDS],
     hold_count: usize,
@@ -204,9 +121,9 @@ fn course_of<'a>(
     termination: &'a [u64; MOST_JOBS],
     request: &'a [u64; MOST_JOBS],
     terms: Terms,
-) -> Course
-    requires { ⌜ Runnable holds «hold_count» (now cycles) (now worth) (now critical) (now termination) (now request) terms ⌝ }
-    ensures { λ r. ⌜ CourseRun holds «hold_count» (now (number .entry)) (now (cycles .entry)) (now (worth .entry)) (now (critical .entry)) (now (termination .entry)) (now (request .entry)) terms r ⌝ }
+) -> CourseTaken
+    requires { ⌜ CourseRunnable holds «hold_count» (besides (now number) (now cycles) (now worth) (now critical) (now termination) (now request)) terms ⌝ }
+    ensures { λ r. ⌜ CourseRun holds «hold_count» (besides (now (number .entry)) (now (cycles .entry)) (now (worth .entry)) (now (critical .entry)) (now (termination .entry)) (now (request .entry))) terms r ⌝ }
 {
     let left = take_out(
         holds,
@@ -223,8 +140,7 @@ fn course_of<'a>(
     let turns = turn_order(&left.fates, number, &ratios.over, &ratios.under, jobs);
     let so_far = left.fates;
     take_turns(
-        &turns.order,
-        turns.count,
+        turns,
         &ratios.over,
         &left.waits,
         critical,
@@ -241,33 +157,26 @@ fn conclude<'a>(
     speed_count: usize,
     cycles: &'a [u64; MOST_JOBS],
     termination: &'a [u64; MOST_JOBS],
-    course: Course,
+    course: CourseTaken,
     terms: Terms,
 ) -> Decided
     requires { ⌜ Concludable speeds «speed_count» (now cycles) (now termination) course terms ⌝ }
     ensures { λ r. ⌜ Concluded speeds «speed_count» (now (cycles .entry)) (now (termination .entry)) course terms r ⌝ }
 {
     let places = course.places;
-    let planned = &places[..course.count];
-    let total = total_cycles(planned, cycles);
-    let speed = choose_speed(
-        speeds,
-        speed_count,
-        planned,
-        cycles,
-        termination,
-        total,
-        terms.clock,
-        terms.budget,
-    );
+    let totals = course.totals;
+    let count = totals.count;
+    let planned = &places[..count];
+    let chosen = choose_speed(speeds, speed_count, planned, cycles, termination, terms);
+    let speed = chosen.speed;
     let by_turn = course.fates;
     let fates = mark_planned(by_turn, planned);
     Decided {
         places: places,
-        count: course.count,
+        count: count,
         fates: fates,
         speed: speed,
-        energy: total * speed.cost,
+        energy: chosen.energy,
     }
 }
 

@@ -5,12 +5,12 @@ use mathlib.Core.Path.{_≡_}
 use Prim.Native.Nat.{ℕ, _*_, _-_, _≤_, _<_}
 use native.Mathlib.Omega.{arith}
 use lib.ListN.{getD, length, set}
-use Rattle.chains.specs.Promises.{mostMembers, mostWorth}
+use Rattle.chains.specs.Promises.{mostMembers}
 use Rattle.ranks.proofs.FilledBack.{FilledFrom, none-filled, one-more-filled, passed-over, stored-at-most}
 use Rattle.ranks.specs.Promises.{RatiosOf, SmallRatios}
 use Rattle.rules.specs.Lists.{total}
-use Rattle.rules.specs.Plan.{Ratio, awaited, chainOf, cyclesOf, gives, inRunningOrder, ratioOf, runsOf, waitsLeft}
-use Rattle.rules.specs.TableText.{Records, mostCycles, noJob}
+use Rattle.rules.specs.Plan.{Ratio, awaited, chainOf, cyclesOf, gives, farEndFirst, ratioOf, runsOf, waitsLeft}
+use Rattle.rules.specs.TableText.{Records, mostCycles, mostWorth, noJob}
 use Rattle.rules.specs.declared.Job.{Job}
 
 -- the ratio of the chain of the job at a place
@@ -22,7 +22,7 @@ module _ (t : Records) (k r : ℕ) where
   job = getD (t .jobs) k noJob
 
   -- what the members of its chain give
-  pub gives-of-chain : r ≡ total (gives t) (runsOf (inRunningOrder (job ∷ awaited (waitsLeft t) job)))
+  pub gives-of-chain : r ≡ total (gives t) (runsOf (farEndFirst (job ∷ awaited (waitsLeft t) job)))
       → r ≡ ratioAt t k .over
   unfolding ratioOf chainOf
   gives-of-chain e = e

@@ -11,7 +11,7 @@ use Rattle.laws.proofs.Elements.{length-more}
 use Rattle.records.proofs.After.{clock-after, hold-after, job-after, speed-after}
 use Rattle.records.specs.Standing.{afterClock, afterHold, afterJob, afterSpeed, standingOf}
 use Rattle.records.specs.declared.Standing.{Standing}
-use Rattle.rules.specs.Refusals.{Before, accepted, added}
+use Rattle.rules.specs.Refusals.{Before, accepted, added, withMore}
 use Rattle.rules.specs.TableText.{Record, mostHolds, mostJobs, mostSpeeds, noHold, noJob, noSpeed}
 use Rattle.rules.specs.declared.Hold.{Hold}
 use Rattle.rules.specs.declared.Job.{Job}
@@ -21,8 +21,8 @@ use Rattle.text.specs.Lines.{isRefused, parsedOf}
 use Rattle.text.specs.declared.Cursor.{Cursor}
 use Rattle.text.specs.declared.Line.{Line}
 use Rattle.text.specs.declared.Parsed.{Parsed}
-use Rattle.lines.specs.Step.{LineAccepted, judgedAs, withMore}
-use Rattle.reader.proofs.SoFar.{Moved, SoFar, begunWith, fits, moved, one-more-column, one-more-padded, stored}
+use Rattle.lines.specs.Step.{LineAccepted, judgedAs}
+use Rattle.reader.proofs.SoFar.{LineMoved, SoFar, standsWith, fits, moved, one-more-column, one-more-padded, stored}
 
 -- the table with a T, an F, a J or an H line stored
 abbrev pub clockStored : Table → ℕ → ℕ → Table
@@ -53,9 +53,9 @@ judged-accepted b (Record.H h) = refl
 
 module _ (text : List ℕ) (table : Table) (numbers requests : List ℕ) (before : Standing) (place : Cursor)
     (so-far : SoFar text table numbers requests before place) (inside : place .at < length text) (l : Line)
-    (line : LineAccepted text place (begunWith before (so-far .records)) l) where
+    (line : LineAccepted text place (standsWith before (so-far .records)) l) where
   abbrev at-line : Before
-  at-line = begunWith before (so-far .records)
+  at-line = standsWith before (so-far .records)
 
   speeds-noted : before .speeds ≡ length (so-far .records .speeds)
   speeds-noted = ap (λ (s : Standing). s .speeds) (so-far .noted .state)
@@ -67,7 +67,7 @@ module _ (text : List ℕ) (table : Table) (numbers requests : List ℕ) (before
   holds-noted = ap (λ (s : Standing). s .holds) (so-far .noted .state)
 
   abbrev MovedTo : Record → Type 0
-  MovedTo r = Moved text table numbers requests before place so-far inside l line (withMore at-line r)
+  MovedTo r = LineMoved text table numbers requests before place so-far inside l line (withMore at-line r)
 
   moved-by : (r : Record) → l .parsed ≡ parsedOf r → MovedTo r
   moved-by r e =

@@ -10,16 +10,16 @@ use borrow.Author.Tests.{lt-ltb}
 use lib.ListN.{length, drop, set, replicate, length-drop}
 use lib.Seq.{append-snoc, set-at}
 use Rattle.columns.specs.Columns.{Column}
-use Rattle.laws.proofs.Accepted.{Standing as Reachable, clock-read, nothing-read, reached-standing, valid}
+use Rattle.grammar.proofs.Accepted.{Reachable, clock-read, nothing-read, reached-standing, valid}
 use Rattle.laws.proofs.Elements.{length-more}
-use Rattle.laws.proofs.Lines.{items, record-rest, rest-shorter}
-use Rattle.laws.proofs.Stopped.{after, at-once}
-use Rattle.laws.proofs.Trips.{valid-few-holds}
-use Rattle.laws.specs.FirstLine.{firstItem, restOf}
+use Rattle.grammar.proofs.Lines.{items, record-rest, rest-shorter}
+use Rattle.grammar.proofs.Stopped.{after, at-once}
+use Rattle.grammar.proofs.Trips.{valid-few-holds}
+use Rattle.grammar.specs.FirstLine.{firstItem, restOf}
 use Rattle.records.specs.declared.Standing.{Standing}
 use Rattle.rules.specs.Lists.{Rising, no-element}
-use Rattle.rules.specs.Refusals.{Before, Item, accept, accepted, added, andThen, bad, itemsIn, nothing, one, read, takeFrom}
-use Rattle.rules.specs.TableText.{Record, Records, linesOf, mostHolds, mostJobs, mostSpeeds, noHold, noJob, noRecords, noSpeed, padded}
+use Rattle.rules.specs.Refusals.{Before, Item, accept, acceptUpTo, accepted, added, andThen, bad, itemsIn, nothing, one, read, takeFrom, takeFromUpTo}
+use Rattle.rules.specs.TableText.{Record, Records, linesOf, mostHolds, mostJobs, mostSpeeds, noHold, noJob, noSpeed, padded}
 use Rattle.rules.specs.declared.Job.{Job}
 use Rattle.rules.specs.declared.Table.{Table}
 use Rattle.text.specs.Fields.{lineBehind, mostLine}
@@ -41,31 +41,31 @@ stored r = record {
   holds = padded mostHolds noHold (r .holds);
 }
 
-abbrev pub begunWith : Standing → Records → Before
-begunWith s r = record { begun = s .begun; records = r }
+abbrev pub standsWith : Standing → Records → Before
+standsWith s r = record { begun = s .begun; records = r }
 
 pub record SoFar (text : List ℕ) (table : Table) (numbers requests : List ℕ) (before : Standing) (place : Cursor) : Type 0 where
   pub records : Records
   pub lines : List Record
   pub in-places : table ≡ stored records
-  pub reached : Reachable (begunWith before records) lines
-  pub noted : Noted (begunWith before records) before numbers requests
+  pub reached : Reachable (standsWith before records) lines
+  pub noted : Noted (standsWith before records) before numbers requests
   pub numbers-whole : length numbers ≡ mostJobs
   pub requests-whole : length requests ≡ mostJobs
-  pub to-read : read text ≡ takeFrom (place .line) (begunWith before records) (itemsIn (linesOf (drop (place .at) text)))
+  pub to-read : read text ≡ takeFrom (place .line) (standsWith before records) (itemsIn (linesOf (drop (place .at) text)))
   pub few-lines : place .line + place .line ≤ place .at + 2
   pub within : place .at ≤ length text
   pub counted : length text ≤ mostLine
 
 -- the records of any state that is reached fit their places, and their numbers rise
-pub record Fit (b : Before) : Type 0 where
+pub record RecordsFit (b : Before) : Type 0 where
   pub speeds : length (b .records .speeds) ≤ mostSpeeds
   pub jobs : length (b .records .jobs) ≤ mostJobs
   pub holds : length (b .records .holds) ≤ mostHolds
   pub rising : Rising (λ (j : Job). j .number) (b .records .jobs)
 
-pub fits : {b : Before} {rs : List Record} → Reachable b rs → Fit b
-unfolding nothing noRecords added
+pub fits : {b : Before} {rs : List Record} → Reachable b rs → RecordsFit b
+unfolding nothing added
 fits nothing-read = record { speeds = omega arith; jobs = omega arith; holds = omega arith; rising = no-element }
 fits (clock-read e) = record { speeds = omega arith; jobs = omega arith; holds = omega arith; rising = no-element }
 fits (valid {r} v) = record { speeds = v .few-speeds; jobs = v .few-jobs; holds = valid-few-holds v; rising = v .jobs-rise }
@@ -90,9 +90,9 @@ one-more-column f (i ∷ js) j (x ∷ c) h column (suc k) = one-more-column f js
 
 module _ (text : List ℕ) (table : Table) (numbers requests : List ℕ) (before : Standing) (place : Cursor)
     (so-far : SoFar text table numbers requests before place) (inside : place .at < length text) (l : Line)
-    (line : LineAccepted text place (begunWith before (so-far .records)) l) where
+    (line : LineAccepted text place (standsWith before (so-far .records)) l) where
   abbrev here : Before
-  here = begunWith before (so-far .records)
+  here = standsWith before (so-far .records)
 
   remains : 0 < length (drop (place .at) text)
   remains = rw (length-drop (place .at) text) (omega arith)
@@ -103,7 +103,7 @@ module _ (text : List ℕ) (table : Table) (numbers requests : List ℕ) (before
       omega (arith, rest-shorter (drop (place .at) text) remains, ap length (line .rest good), length-drop (place .at) text, length-drop (l .next .at) text)
 
   -- the reading after the line, where it is accepted
-  pub record Moved (next : Before) : Type 0 where
+  pub record LineMoved (next : Before) : Type 0 where
     pub lines : List Record
     pub reached : Reachable next lines
     pub to-read : read text ≡ takeFrom (l .next .line) next (itemsIn (linesOf (drop (l .next .at) text)))
@@ -113,7 +113,7 @@ module _ (text : List ℕ) (table : Table) (numbers requests : List ℕ) (before
   -- a line that is accepted is a letter, a tab and more, so that no text has more lines than can be counted
   two-bytes : (i : Item) (next : Before) → firstItem (drop (place .at) text) ≡ i → accept here i ≡ accepted next
       → length (restOf (drop (place .at) text)) + 2 ≤ length (drop (place .at) text)
-  unfolding accept
+  unfolding acceptUpTo
   two-bytes (one r) next e h = record-rest (drop (place .at) text) r e
   two-bytes (bad why) next e h = let z : _≡_ {A = ℕ} 0 1 = cc in absurd (omega arith)
 
@@ -123,8 +123,8 @@ module _ (text : List ℕ) (table : Table) (numbers requests : List ℕ) (before
       line .next-line good
       ∙ rw (lt-ltb (place .line) mostLine (omega (arith, so-far .few-lines, so-far .within, so-far .counted)))
 
-  pub moved : (next : Before) → isRefused (l .parsed) ≡ false → judgedAs here (l .parsed) ≡ accepted next → Moved next
-  unfolding takeFrom andThen
+  pub moved : (next : Before) → isRefused (l .parsed) ≡ false → judgedAs here (l .parsed) ≡ accepted next → LineMoved next
+  unfolding takeFromUpTo andThen
   moved next good e =
       let step : accept here (firstItem (drop (place .at) text)) ≡ accepted next = sym (line .judged) ∙ e in
       let (rs, same, stands) = reached-standing (so-far .reached) (after step at-once) in

@@ -83,7 +83,7 @@ pub fn read(text: &[u8]) -> Reading
         let line = lines::accept_line(text, place, before, &numbers, &requests);
         let parsed = line.parsed;
         let n = lines::count_of(before, parsed);
-        before = lines::after(before, parsed);
+        before = lines::standing_after(before, parsed);
         place = line.next;
         match parsed {
             Parsed::Clock(clock, budget) => {

@@ -8,7 +8,7 @@ use Prim.Native.Nat.{ℕ}
 use lib.Dec.{eqb, ltb, eqb·suc-zero}
 use lib.ListN.{length}
 use Rattle.rules.specs.Lists.{any, empty, lastOr}
-use Rattle.rules.specs.Refusals.{Before, asksOwn, criticalAfter, faultOf, isHolder, mayStand, outOfOrder, outOfRange, ownRequest, rises, tooMany, unknownJob}
+use Rattle.rules.specs.Refusals.{Before, asksOwn, criticalAfter, faultOf, faultOfUpTo, isHolder, mayStand, outOfOrder, outOfRange, ownRequest, rises, tooManyUpTo, unknownJob}
 use Rattle.rules.specs.TableText.{Record, noHold, noJob, noSpeed}
 use Rattle.rules.specs.declared.Hold.{Hold}
 use Rattle.rules.specs.declared.Job.{Job}
@@ -42,16 +42,16 @@ not-three-first false true c = refl
 not-three-first false false c = refl
 
 pub clock-fault : (b : Before) (clock budget : ℕ) → faultOf b (Record.T clock budget) ≡ clockFault (standingOf b) clock budget
-unfolding faultOf outOfRange outOfOrder mayStand rises tooMany criticalAfter unknownJob ownRequest clockFault
+unfolding faultOfUpTo outOfRange outOfOrder mayStand rises tooManyUpTo criticalAfter unknownJob ownRequest clockFault
 clock-fault b clock budget = rw (not-one (b .begun))
 
 pub speed-fault : (b : Before) (f : Speed) → faultOf b (Record.F f) ≡ speedFault (standingOf b) f
-unfolding faultOf outOfRange outOfOrder mayStand rises tooMany criticalAfter unknownJob ownRequest speedFault
+unfolding faultOfUpTo outOfRange outOfOrder mayStand rises tooManyUpTo criticalAfter unknownJob ownRequest speedFault
 speed-fault b f =
     rw (empty-count (b .records .jobs)) (rw (not-three (b .begun) (eqb (length (b .records .jobs)) 0) (ltb (lastOr noSpeed (b .records .speeds) .mhz) (f .mhz))))
 
 pub job-fault : (b : Before) (j : Job) → faultOf b (Record.J j) ≡ jobFault (standingOf b) j
-unfolding faultOf outOfRange outOfOrder mayStand rises tooMany criticalAfter unknownJob ownRequest jobFault
+unfolding faultOfUpTo outOfRange outOfOrder mayStand rises tooManyUpTo criticalAfter unknownJob ownRequest jobFault
 job-fault b j =
     rw (empty-count (b .records .speeds))
     (rw (empty-count (b .records .holds))
@@ -64,7 +64,7 @@ holder-fault js h =
 
 pub hold-fault : (b : Before) (h : Hold) (holder : Holder) → holder-fault (b .records .jobs) h ≡ holderFault holder h
     → faultOf b (Record.H h) ≡ holdFault (standingOf b) h holder
-unfolding faultOf outOfRange outOfOrder mayStand rises tooMany criticalAfter unknownJob ownRequest holdFault holder-fault
+unfolding faultOfUpTo outOfRange outOfOrder mayStand rises tooManyUpTo criticalAfter unknownJob ownRequest holdFault holder-fault
 hold-fault b h holder e =
     rw (empty-count (b .records .jobs))
     (rw (not-two (eqb (length (b .records .jobs)) 0) (ltb (lastOr noHold (b .records .holds) .resource) (h .resource)))

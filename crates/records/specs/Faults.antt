@@ -22,30 +22,30 @@ abbrev pub faultSays : Judgement → Option Refusal
 faultSays Judgement.Good = none
 faultSays (Judgement.Bad r) = some r
 
-abbrev pub firstOf : Bool → Refusal → Option Refusal → Option Refusal
-firstOf t r others = cond t (some r) others
+abbrev pub firstFault : Bool → Refusal → Option Refusal → Option Refusal
+firstFault t r others = cond t (some r) others
 
 unfoldable pub clockFault : Standing → ℕ → ℕ → Option Refusal
 clockFault s clock budget =
-    firstOf (not (inRange (Record.T clock budget))) Refusal.Range (firstOf (s .begun) Refusal.Order none)
+    firstFault (not (inRange (Record.T clock budget))) Refusal.Range (firstFault (s .begun) Refusal.Order none)
 
 unfoldable pub speedFault : Standing → Speed → Option Refusal
 speedFault s f =
-    firstOf (not (inRange (Record.F f))) Refusal.Range
-    (firstOf (not (s .begun) || not (eqb (s .jobs) 0) || not (ltb (s .mhz) (f .mhz))) Refusal.Order
-    (firstOf (leb mostSpeeds (s .speeds)) Refusal.TooMany none))
+    firstFault (not (inRange (Record.F f))) Refusal.Range
+    (firstFault (not (s .begun) || not (eqb (s .jobs) 0) || not (ltb (s .mhz) (f .mhz))) Refusal.Order
+    (firstFault (leb mostSpeeds (s .speeds)) Refusal.TooMany none))
 
 unfoldable pub jobFault : Standing → Job → Option Refusal
 jobFault s j =
-    firstOf (not (inRange (Record.J j))) Refusal.Range
-    (firstOf (eqb (s .speeds) 0 || not (eqb (s .holds) 0) || not (ltb (s .number) (j .number))) Refusal.Order
-    (firstOf (leb mostJobs (s .jobs)) Refusal.TooMany
-    (firstOf (ltb (j .termination) (j .critical)) Refusal.CriticalAfterTermination none)))
+    firstFault (not (inRange (Record.J j))) Refusal.Range
+    (firstFault (eqb (s .speeds) 0 || not (eqb (s .holds) 0) || not (ltb (s .number) (j .number))) Refusal.Order
+    (firstFault (leb mostJobs (s .jobs)) Refusal.TooMany
+    (firstFault (ltb (j .termination) (j .critical)) Refusal.CriticalAfterTermination none)))
 
 -- what the holder's request says: unknown, its own resource, or nothing
 abbrev pub holderFault : Holder → Hold → Option Refusal
 holderFault Holder.Unknown h = some Refusal.UnknownJob
-holderFault (Holder.Requests request) h = firstOf (eqb request (h .resource)) Refusal.OwnRequest none
+holderFault (Holder.Requests request) h = firstFault (eqb request (h .resource)) Refusal.OwnRequest none
 
 -- the job of a number among those of the table
 abbrev pub asHolder : Option Job → Holder
@@ -63,5 +63,5 @@ HolderOf numbers requests count number holder =
 
 unfoldable pub holdFault : Standing → Hold → Holder → Option Refusal
 holdFault s h holder =
-    firstOf (not (inRange (Record.H h))) Refusal.Range
-    (firstOf (eqb (s .jobs) 0 || not (ltb (s .resource) (h .resource))) Refusal.Order (holderFault holder h))
+    firstFault (not (inRange (Record.H h))) Refusal.Range
+    (firstFault (eqb (s .jobs) 0 || not (ltb (s .resource) (h .resource))) Refusal.Order (holderFault holder h))

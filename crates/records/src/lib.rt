@@ -2,6 +2,7 @@
 use columns::Found;
 use rules::Hold;
 use rules::Job;
+use rules::MOST_CYCLES;
 use rules::MOST_JOBS;
 use rules::Refusal;
 use rules::Speed;
@@ -19,9 +20,7 @@ const MOST_MHZ: u64 = 4000;
 
 const MOST_COST: u64 = 4000000;
 
-const MOST_NUMBER: u64 = 9999;
-
-const MOST_CYCLES: u64 = 1000000;
+const MOST_JOB_NUMBER: u64 = 9999;
 
 const MOST_WORTH: u64 = 1000000;
 
@@ -71,7 +70,7 @@ fn speed_in_range(speed: Speed) -> bool
 fn job_in_range(job: Job) -> bool
     ensures { λ r. ⌜ r ≡ inRange (Record.J job) ⌝ }
 {
-    if !rules::within(1, MOST_NUMBER, job.number) {
+    if !rules::within(1, MOST_JOB_NUMBER, job.number) {
         return false;
     }
     if !rules::within(1, MOST_CYCLES, job.cycles) {
@@ -95,7 +94,7 @@ fn hold_in_range(hold: Hold) -> bool
     if !rules::within(1, MOST_RESOURCE, hold.resource) {
         return false;
     }
-    rules::within(1, MOST_NUMBER, hold.holder)
+    rules::within(1, MOST_JOB_NUMBER, hold.holder)
 }
 
 // Refusals 2 and 3 of a T line.

@@ -62,19 +62,19 @@ module _ {holds : List Hold} {hold-count : ℕ} {number cycles worth termination
   pub steps-1-and-2 : Staged holds hold-count number cycles worth termination request terms
       (record { fates = fates; waits = waits })
   steps-1-and-2 = record {
-    stage = λ t valid terms-of holds-of number-of cycles-of worth-of termination-of request-of.
+    stage = λ t valid terms-of holds-of number-of runs worth-of request-of.
         let long = sym (terms-of .job-count) in
         let rising = valid .jobs-rise in
         let at : HolderAt (t .jobs) (t .holds) holder-at =
         rw holds-of at (holders .holders (t .jobs) long rising number-of) in
         let late-of : (i : ℕ) → i < length (t .jobs) → getD late i 0 ≡ fateIfLate t (getD (t .jobs) i noJob) =
-        late-fates .late t terms-of cycles-of termination-of in
+        late-fates .late t terms-of runs in
         let timely-waits-of =
         among-timely .waits (t .jobs) (t .holds) (staysTimely t) long rising request-of at
         (timely-remain t late late-of) in
         let fates-of : FatesSoFar t fates =
         λ i l.
-        ring-fates .fates t (t .jobs) (nextTimely t) long rising timely-waits-of number-of worth-of cycles-of i l
+        ring-fates .fates t (t .jobs) (nextTimely t) long rising timely-waits-of number-of worth-of (runs .cycles-of) i l
         ∙ fate-so-far t (getD (t .jobs) i noJob) (getD late i 0) (late-of i l) in
         record {
           fates-so-far = fates-of;

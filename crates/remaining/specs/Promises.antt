@@ -3,36 +3,26 @@ use mathlib.Core.Bool.{Bool, cond}
 use mathlib.Core.List.{List}
 use mathlib.Core.Option.{Option}
 use mathlib.Core.Path.{_≡_}
-use Prim.Native.Nat.{ℕ, _≤_, _<_}
+use Prim.Native.Nat.{ℕ, _<_}
 use lib.Dec.{eqb}
 use lib.ListN.{getD, length, take}
-use Rattle.chains.specs.Promises.{Holdable, mostWorth}
+use Rattle.chains.specs.Promises.{Holdable}
 use Rattle.chains.specs.Stage.{Stage, fateIfLate}
 use Rattle.chains.specs.Waits.{HolderAt, Remaining, Waits}
-use Rattle.columns.specs.Columns.{AtMost, Column, TermsOf}
+use Rattle.columns.specs.Columns.{AtMost, Column, RunsOf, TermsOf}
+use Rattle.columns.specs.Ranges.{RunsInRange, TermsInRange}
 use Rattle.columns.specs.declared.Terms.{Terms}
-use Rattle.entries.specs.Promises.{mostMhz, mostTime}
-use Rattle.remaining.specs.declared.Remaining.{Remaining as Left}
+use Rattle.remaining.specs.declared.Left.{Left}
 use Rattle.rules.specs.Lists.{Rising, keep}
 use Rattle.rules.specs.Plan.{awaited, fateDeadlock, leavesRing, waitsFor}
-use Rattle.rules.specs.TableText.{Records, mostCycles, mostHolds, mostJobs, noJob}
+use Rattle.rules.specs.TableText.{Records, mostResource, mostWorth, noJob}
 use Rattle.rules.specs.Valid.{Valid}
 use Rattle.rules.specs.declared.Hold.{Hold}
 use Rattle.rules.specs.declared.Job.{Job}
 
--- Times, cycles and a speed in their ranges: no product of them wraps.
-pub record Timeable (cycles termination : List ℕ) (terms : Terms) : Type 0 where
-  pub few-jobs : terms .«job_count» ≤ mostJobs
-  pub cycles-small : AtMost mostCycles cycles
-  pub termination-small : AtMost mostTime termination
-  pub clock-small : terms .clock ≤ mostTime
-  pub mhz-small : terms .mhz ≤ mostMhz
-
 -- The fates of step 1.
 pub record LateFates (cycles termination : List ℕ) (terms : Terms) (r : List ℕ) : Type 0 where
-  pub late : (t : Records) → TermsOf t terms → Column (λ j. j .cycles) (t .jobs) cycles
-      → Column (λ j. j .termination) (t .jobs) termination
-      → (i : ℕ) → i < length (t .jobs) → getD r i 0 ≡ fateIfLate t (getD (t .jobs) i noJob)
+  pub late : (t : Records) → TermsOf t terms → RunsOf (t .jobs) cycles termination → (i : ℕ) → i < length (t .jobs) → getD r i 0 ≡ fateIfLate t (getD (t .jobs) i noJob)
 
 -- Whom each job waits for among those of fate 0.
 pub record WaitsColumn (request holder-at fates : List ℕ) (job-count : ℕ) (r : List ℕ) : Type 0 where
@@ -59,18 +49,19 @@ pub record RingFates (late waits number worth cycles : List ℕ) (job-count : �
       ≡ cond (eqb (getD late i 0) 0)
       (cond (leavesRing t (awaited next (getD js i noJob)) (getD js i noJob)) fateDeadlock 0) (getD late i 0)
 
--- Counts, resources, times, cycles, worths, requests and a speed in their ranges.
+-- Holds, columns and terms in their ranges.
 pub record Stageable (holds : List Hold) (hold-count : ℕ) (cycles worth termination request : List ℕ) (terms : Terms)
     : Type 0 where
   pub holdable : Holdable holds hold-count (terms .«job_count»)
-  pub timeable : Timeable cycles termination terms
+  pub runs-small : RunsInRange cycles termination
   pub worth-small : AtMost mostWorth worth
-  pub request-small : AtMost mostHolds request
+  pub request-small : AtMost mostResource request
+  pub terms-small : TermsInRange terms
 
 -- What steps 1 and 2 leave.
 pub record Staged (holds : List Hold) (hold-count : ℕ) (number cycles worth termination request : List ℕ) (terms : Terms)
     (r : Left) : Type 0 where
   pub stage : (t : Records) → Valid t → TermsOf t terms → take hold-count holds ≡ t .holds
-      → Column (λ j. j .number) (t .jobs) number → Column (λ j. j .cycles) (t .jobs) cycles
-      → Column (λ j. j .worth) (t .jobs) worth → Column (λ j. j .termination) (t .jobs) termination
-      → Column (λ j. j .request) (t .jobs) request → Stage t (r .fates) (r .waits)
+      → Column (λ j. j .number) (t .jobs) number → RunsOf (t .jobs) cycles termination
+      → Column (λ j. j .worth) (t .jobs) worth → Column (λ j. j .request) (t .jobs) request
+      → Stage t (r .fates) (r .waits)

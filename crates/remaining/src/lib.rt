@@ -15,15 +15,16 @@ use rules::NO_FATE;
 ghost use mathlib.Core.Bool.{cond, not};
 ghost use mathlib.Core.Path.{_≡_};
 ghost use Prim.Native.Nat.{_≤_, _<_};
-ghost use Rattle.chains.specs.Promises.{Comparable, mostWorth};
+ghost use Rattle.chains.specs.Promises.{Comparable};
 ghost use Rattle.columns.specs.Columns.{AtMost};
-ghost use Rattle.remaining.specs.Promises.{LateFates, RingFate, RingFates, Stageable, Staged, Timeable};
+ghost use Rattle.columns.specs.Ranges.{RunsInRange, TermsInRange};
+ghost use Rattle.remaining.specs.Promises.{LateFates, RingFate, RingFates, Stageable, Staged};
 ghost use Rattle.remaining.specs.Promises.{WaitsColumn};
 ghost use Rattle.rules.specs.Plan.{endsBy, fateLate};
-ghost use Rattle.rules.specs.TableText.{mostCycles, mostHolds, mostJobs};
+ghost use Rattle.rules.specs.TableText.{mostCycles, mostHolds, mostJobs, mostWorth};
 
 // A fate for each job taken out, 0 for the others, and whom each job waits for among the others, by its place.
-pub struct Remaining {
+pub struct Left {
     pub fates: [u64; MOST_JOBS],
     pub waits: [u64; MOST_JOBS],
 }
@@ -45,7 +46,7 @@ fn late_fates<'a>(
     termination: &'a [u64; MOST_JOBS],
     terms: Terms,
 ) -> [u64; MOST_JOBS]
-    requires { ⌜ Timeable (now cycles) (now termination) terms ⌝ }
+    requires { ⌜ RunsInRange (now cycles) (now termination) × TermsInRange terms ⌝ }
     ensures { λ r. ⌜ LateFates (now (cycles .entry)) (now (termination .entry)) terms r ⌝ }
 {
     let count = terms.job_count;
@@ -135,7 +136,7 @@ pub fn take_out<'a>(
     termination: &'a [u64; MOST_JOBS],
     request: &'a [u64; MOST_JOBS],
     terms: Terms,
-) -> Remaining
+) -> Left
     requires { ⌜ Stageable holds «hold_count» (now cycles) (now worth) (now termination) (now request) terms ⌝ }
     ensures { λ r. ⌜ Staged holds «hold_count» (now (number .entry)) (now (cycles .entry)) (now (worth .entry)) (now (termination .entry)) (now (request .entry)) terms r ⌝ }
 {
@@ -144,7 +145,7 @@ pub fn take_out<'a>(
     let timely_waits = waits_column(request, &holder_at, &late, terms.job_count);
     let fates = ring_fates(&late, &timely_waits, number, worth, cycles, terms.job_count);
     let waits = waits_column(request, &holder_at, &fates, terms.job_count);
-    Remaining {
+    Left {
         fates: fates,
         waits: waits,
     }

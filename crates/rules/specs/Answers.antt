@@ -59,11 +59,11 @@ abbrev pub suppliedSays : Supplied → Answer
 suppliedSays s = verdictSays (s .verdict) (s .costs)
 
 -- A text that is read: the table.
-pub record TableAnswer : Type 0 where
+pub record ReadAnswer : Type 0 where
   pub answer : Answer
   pub table : Table
 
-abbrev pub readingSays : Reading → TableAnswer
+abbrev pub readingSays : Reading → ReadAnswer
 readingSays r = record { answer = verdictSays (r .verdict) []; table = r .table }
 
 -- A table or a listing that is written: how many bytes.

@@ -1,13 +1,13 @@
 -- Our own cases: a second table and claim. They refuse readings of document 01 that the sheet lets pass.
 use mathlib.Core.Path.{refl}
 use mathlib.Core.List.{List, [], _∷_, _++_, map}
-use Prim.Native.Nat.{ℕ, zero, suc, _+_, _*_}
+use Prim.Native.Nat.{ℕ, zero, suc, _+_, _-_, _*_}
 use Prim.Native.String.{String}
 use lib.ListN.{replicate}
 use Rattle.rules.specs.Answers.{decisionSays, writtenSays}
 use Rattle.rules.specs.Bytes.{bytes}
 use Rattle.rules.specs.Case.{AllRight, Case, Checking, Judging, checks, judges, lists, plans, reads, writes, wrong}
-use Rattle.rules.specs.TableText.{Record, recordText, tableOf}
+use Rattle.rules.specs.TableText.{Record, Records, mostJobs, noRecords, recordText, tableOf, withClock, withCounts, withHolds, withJobs, withSpeeds}
 use Rattle.rules.specs.declared.Decision.{Decision}
 use Rattle.rules.specs.declared.Job.{Job}
 use Rattle.rules.specs.declared.Hold.{Hold}
@@ -45,20 +45,14 @@ held n = record { resource = n; holder = 1 }
 abbrev goodLines : List Record → List Judging
 goodLines rs = map (λ r. record { line = recordText r; number = 0 }) rs
 
+-- records, letter by letter
+abbrev records : ℕ → ℕ → List Speed → List Job → List Hold → Records
+records clock budget fs js hs = withHolds (withJobs (withSpeeds (withClock noRecords clock budget) fs) js) hs
+
 -- the table of so many short records, and counts that may be others
 abbrev counted : ℕ → ℕ → ℕ → ℕ → ℕ → ℕ → Table
 counted fs js hs f j h =
-    let t = tableOf (record { clock = 7; budget = 9; speeds = map slow (from 1 fs); jobs = map short (from 1 js); holds = map held (from 1 hs) }) in
-    record {
-      clock = t .clock;
-      budget = t .budget;
-      «speed_count» = f;
-      «job_count» = j;
-      «hold_count» = h;
-      speeds = t .speeds;
-      jobs = t .jobs;
-      holds = t .holds;
-    }
+    withCounts (tableOf (records 7 9 (map slow (from 1 fs)) (map short (from 1 js)) (map held (from 1 hs)))) f j h
 
 abbrev checking : Table → ℕ → ℕ → Checking
 checking t n l = record { table = t; number = n; line = l }
@@ -132,38 +126,39 @@ cases =
     ∷ line "J\t2\t1\t0\t1\t0\t0\n" 5
     ∷ line "F\t4000\t1\n" 3
     ∷ line "T\t0\t0\n" 3
-    ∷ (goodLines (map (λ n. Record.J (short n)) (from 2 62)) ++ (line "J\t64\t1\t0\t0\t0\t1\n" 0
-    ∷ line "J\t64\t1\t0\t1\t0\t1\n" 3
+    ∷ (goodLines (map (λ n. Record.J (short n)) (from 2 (mostJobs - 2))) ++ (line "J\t9000\t1\t0\t0\t0\t1\n" 0
+    ∷ line "J\t9000\t1\t0\t1\t0\t1\n" 3
     ∷ line "J\t9999\t1\t0\t1\t0\t1\n" 4
     ∷ line "H\t0\t1\n" 2
     ∷ line "H\t33\t1\n" 2
     ∷ line "H\t1\t0\n" 2
     ∷ line "H\t1\t10000\n" 2
-    ∷ line "H\t1\t65\n" 6
-    ∷ line "H\t1\t64\n" 7
-    ∷ line "H\t2\t64\n" 0
+    ∷ line "H\t1\t9001\n" 6
+    ∷ line "H\t1\t9000\n" 7
+    ∷ line "H\t2\t9000\n" 0
     ∷ line "H\t2\t1\n" 3
     ∷ line "H\t32\t1\n" 7
-    ∷ line "J\t65\t1\t0\t0\t0\t0\n" 3
+    ∷ line "J\t9001\t1\t0\t0\t0\t0\n" 3
     ∷ line "H\t32\t9999\n" 6
-    ∷ line "H\t32\t64" 1
+    ∷ line "H\t32\t9000" 1
     ∷ [])))))
-    -- The writer's check: counts at and beyond the places, no F, H without J.
+    -- The writer's check: counts at and beyond the places, no F, H without J. The 65th J is named by its number here, once, so
+    -- that no other limit passes.
     ∷ checks
-    (checking (counted 16 64 32 16 64 32) 0 0
-    ∷ checking (counted 16 64 32 17 64 32) 4 18
+    (checking (counted 16 mostJobs 32 16 mostJobs 32) 0 0
+    ∷ checking (counted 16 mostJobs 32 17 mostJobs 32) 4 18
     ∷ checking (counted 2 64 32 2 65 32) 4 68
     ∷ checking (counted 2 1 32 2 1 33) 3 37
-    ∷ checking (counted 16 64 32 0 1 1) 3 2
+    ∷ checking (counted 16 mostJobs 32 0 1 1) 3 2
     ∷ checking (counted 0 0 0 0 1 0) 3 2
     ∷ checking (counted 2 0 1 2 0 1) 3 4
-    ∷ checking (tableOf (record { clock = 1000000001; budget = 0; speeds = []; jobs = []; holds = [] })) 2 1
+    ∷ checking (tableOf (records 1000000001 0 [] [] [])) 2 1
     ∷ [])
     -- The text is the front of the buffer; room for it exactly, and a byte too little.
     ∷ writes
     (record { table = counted 1 0 0 1 0 0; out = "xxxxxxxxxxxxxx"; answer = writtenSays (Written.Length 12); after = "T\t7\t9\nF\t1\t1\nxx" }
     ∷ record {
-      table = tableOf (record { clock = 7; budget = 9; speeds = record { mhz = 3; cost = 4 } ∷ []; jobs = one ∷ []; holds = record { resource = 7; holder = 1 } ∷ [] });
+      table = tableOf (records 7 9 (record { mhz = 3; cost = 4 } ∷ []) (one ∷ []) (held 7 ∷ []));
       out = "xxxxxxxxxxxxxxxxxxxxxxxxxxxxxxxx";
       answer = writtenSays (Written.Length 32);
       after = "T\t7\t9\nF\t3\t4\nJ\t1\t2\t3\t4\t5\t6\nH\t7\t1\n";
@@ -175,36 +170,36 @@ cases =
     ∷ plans
     (record {
       text = five;
-      order = replicate 64 8;
-      fates = replicate 66 9;
+      order = replicate mostJobs 8;
+      fates = replicate (mostJobs + 2) 9;
       part = 5 ∷ 4 ∷ [];
       after =
           record {
             answer = decisionSays (Decision.Plan 2 800 4500);
-            order = 5 ∷ 4 ∷ replicate 62 0;
-            fates = 2 ∷ 5 ∷ 6 ∷ 1 ∷ 1 ∷ replicate 61 0;
+            order = 5 ∷ 4 ∷ replicate (mostJobs - 2) 0;
+            fates = 2 ∷ 5 ∷ 6 ∷ 1 ∷ 1 ∷ replicate (mostJobs - 3) 0;
           };
     }
     ∷ record {
       text = five;
-      order = replicate 63 8;
-      fates = replicate 64 9;
+      order = replicate (mostJobs - 1) 8;
+      fates = replicate mostJobs 9;
       part = [];
-      after = record { answer = decisionSays (Decision.Refused Refusal.Room 0); order = replicate 63 8; fates = replicate 64 9 };
+      after = record { answer = decisionSays (Decision.Refused Refusal.Room 0); order = replicate (mostJobs - 1) 8; fates = replicate mostJobs 9 };
     }
     ∷ record {
       text = five;
-      order = replicate 64 8;
-      fates = replicate 63 9;
+      order = replicate mostJobs 8;
+      fates = replicate (mostJobs - 1) 9;
       part = [];
-      after = record { answer = decisionSays (Decision.Refused Refusal.Room 0); order = replicate 64 8; fates = replicate 63 9 };
+      after = record { answer = decisionSays (Decision.Refused Refusal.Room 0); order = replicate mostJobs 8; fates = replicate (mostJobs - 1) 9 };
     }
     ∷ record {
       text = "T\t0\t0\nF\t1\t0\n";
-      order = replicate 64 8;
-      fates = replicate 64 9;
+      order = replicate mostJobs 8;
+      fates = replicate mostJobs 9;
       part = [];
-      after = record { answer = decisionSays (Decision.Refused Refusal.Range 2); order = replicate 64 8; fates = replicate 64 9 };
+      after = record { answer = decisionSays (Decision.Refused Refusal.Range 2); order = replicate mostJobs 8; fates = replicate mostJobs 9 };
     }
     ∷ [])
     -- The reader's table: 0 in every unused place; refused, 0 in every place.
@@ -215,9 +210,9 @@ cases =
       line = 0;
       table =
           7 ∷ 9 ∷ 1 ∷ 1 ∷ 1 ∷ 3 ∷ 4
-          ∷ (replicate (15 * 2) 0 ++ (1 ∷ 2 ∷ 3 ∷ 4 ∷ 5 ∷ 6 ∷ (replicate (63 * 6) 0 ++ (7 ∷ 1 ∷ replicate (31 * 2) 0))));
+          ∷ (replicate (15 * 2) 0 ++ (1 ∷ 2 ∷ 3 ∷ 4 ∷ 5 ∷ 6 ∷ (replicate ((mostJobs - 1) * 6) 0 ++ (7 ∷ 1 ∷ replicate (31 * 2) 0))));
     }
-    ∷ record { text = "T\t7\t9\nF\t3\t0\n"; number = 2; line = 2; table = replicate (5 + 16 * 2 + 64 * 6 + 32 * 2) 0 }
+    ∷ record { text = "T\t7\t9\nF\t3\t0\n"; number = 2; line = 2; table = replicate (5 + 16 * 2 + mostJobs * 6 + 32 * 2) 0 }
     ∷ [])
     ∷ []
 

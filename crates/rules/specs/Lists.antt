@@ -51,14 +51,14 @@ module _ {A : Type 0} where
   total f (x ∷ xs) = f x + total f xs
 
   -- x put before the first element that it comes before
-  abbrev pub place : (A → A → Bool) → A → List A → List A
-  place before x [] = x ∷ []
-  place before x (y ∷ ys) = cond (before x y) (x ∷ y ∷ ys) (y ∷ place before x ys)
+  abbrev pub putIn : (A → A → Bool) → A → List A → List A
+  putIn before x [] = x ∷ []
+  putIn before x (y ∷ ys) = cond (before x y) (x ∷ y ∷ ys) (y ∷ putIn before x ys)
 
   -- in order: each element put in its place
   abbrev pub sorted : (A → A → Bool) → List A → List A
   sorted before [] = []
-  sorted before (x ∷ xs) = place before x (sorted before xs)
+  sorted before (x ∷ xs) = putIn before x (sorted before xs)
 
   -- P holds of each element
   pub data Each (P : A → Type 0) : List A → Type 0 where

@@ -6,7 +6,7 @@ use Prim.Native.Nat.{ℕ, zero, suc, _+_, _*_, min}
 use lib.Dec.{leb, ltb, eqb}
 use lib.ListN.{length, take}
 use Rattle.rules.specs.Answers.{Answer, good, refused}
-use Rattle.rules.specs.Lists.{all, any, find, keep, lastOr, place, sorted, total}
+use Rattle.rules.specs.Lists.{all, any, find, keep, lastOr, putIn, sorted, total}
 use Rattle.rules.specs.Refusals.{Taken, refusedAt, taken, isHolder, read}
 use Rattle.rules.specs.TableText.{Records, mostHolds, mostJobs, noSpeed, nth, padded}
 use Rattle.rules.specs.declared.Refusal.{Refusal}
@@ -123,8 +123,8 @@ unfoldable pub chainOf : Records → Job → List Job
 chainOf t j = j ∷ awaited (waitsLeft t) j
 
 -- "It runs from the far end to the job."
-unfoldable pub inRunningOrder : List Job → List Job
-inRunningOrder chain = reverse chain
+unfoldable pub farEndFirst : List Job → List Job
+farEndFirst chain = reverse chain
 
 -- 4. Ratio. "Each member that finishes at or before its termination gives its worth, else 0": what a member gives when it
 -- ends after so many cycles.
@@ -133,7 +133,7 @@ gives t r = cond (endsInTime (t .clock) (topOf t .mhz) r) (r .job .worth) 0
 
 -- "Run the chain alone from now at top speed. .. The ratio is the sum of these over the sum of the chain's cycles."
 unfoldable pub ratioOf : Records → List Job → Ratio
-ratioOf t chain = record { over = total (gives t) (runsOf (inRunningOrder chain)); under = cyclesOf chain }
+ratioOf t chain = record { over = total (gives t) (runsOf (farEndFirst chain)); under = cyclesOf chain }
 
 -- 5. Turns. A job with the rest of its chain and its ratio.
 pub record Turn : Type 0 where
@@ -170,7 +170,7 @@ unfoldable pub goesBefore : Entry → Entry → Bool
 goesBefore new e = leb (new .key) (e .key)
 
 unfoldable pub insert : Job → ℕ → List Entry → List Entry
-insert j key p = place goesBefore (record { job = j; key = key }) p
+insert j key p = putIn goesBefore (record { job = j; key = key }) p
 
 -- the plan without the job's entry
 unfoldable pub remove : Job → List Entry → List Entry
@@ -217,16 +217,20 @@ begin j p = record { limit = j .critical; plan = insert j (j .critical) p }
 unfoldable pub trial : Turn → List Entry → List Entry
 trial i p = members (i .awaited) (begin (i .job) p) .plan
 
--- 7. Accept or not. "If some entry, run in order from now at top speed, ends after its termination".
+-- 7. Accept or not. "run in order": the jobs of a plan in the order in which they are run.
+unfoldable pub runOrder : Records → List Entry → List Job
+runOrder t p = jobsOf p
+
+-- "If some entry, run in order from now at top speed, ends after its termination"
 unfoldable pub inTime : ℕ → ℕ → List Job → Bool
 inTime clock mhz js = all (endsInTime clock mhz) (runsOf js)
 
 unfoldable pub endsLate : Records → List Entry → Bool
-endsLate t p = not (inTime (t .clock) (topOf t .mhz) (jobsOf p))
+endsLate t p = not (inTime (t .clock) (topOf t .mhz) (runOrder t p))
 
 -- "if all its cycles × top cost exceed the budget"
 unfoldable pub tooDear : Records → List Entry → Bool
-tooDear t p = ltb (t .budget) (cyclesOf (jobsOf p) * topOf t .cost)
+tooDear t p = ltb (t .budget) (cyclesOf (runOrder t p) * topOf t .cost)
 
 -- The fates: planned; late alone; taken from a ring; ratio 0; with it some entry would end late; over the budget.
 abbrev pub fatePlanned : ℕ
@@ -286,12 +290,13 @@ unfoldable pub course : Records → List Turn → Course → Course
 course t [] c = c
 course t (i ∷ is) c = course t is (after t i c)
 
--- the course of all turns, from the empty plan
-unfoldable pub start : Course
-start = record { plan = []; ownFates = [] }
+-- before the first turn: the empty plan, and no fate
+unfoldable pub noTurnYet : Course
+noTurnYet = record { plan = []; ownFates = [] }
 
+-- the course of all turns, from the empty plan
 unfoldable pub courseOf : Records → Course
-courseOf t = course t (turns t) start
+courseOf t = course t (turns t) noTurnYet
 
 -- 8. Fate. "Planned is 1, also for a job that came in with another's chain after its own turn failed. A job taken out in
 -- step 1 or 2 keeps 2 or 3. Otherwise the fate is that of its own turn."
@@ -334,7 +339,7 @@ pub record Plan : Type 0 where
 
 unfoldable pub planFrom : Records → Course → Plan
 planFrom t c =
-    let js = jobsOf (c .plan) in
+    let js = runOrder t (c .plan) in
     let f = speedFor t js in
     record {
       jobs = js;
@@ -381,10 +386,21 @@ leavesOf (taken t) order fates = leavesPlan (planOf t) order fates
 leavesOf (refusedAt why line) order fates = leavesAll why line order fates
 
 -- "an order buffer or a fate buffer of fewer than 64 places is refused 8 with line 0", before the text is read
-unfoldable pub tooSmall : List ℕ → Bool
-tooSmall buffer = ltb (length buffer) mostJobs
+unfoldable pub tooSmallUpTo : ℕ → List ℕ → Bool
+tooSmallUpTo most buffer = ltb (length buffer) most
 
-unfoldable pub planning : List ℕ → List ℕ → List ℕ → AfterPlanning
-planning text order fates =
-    let planned = leavesOf (read text) order fates in
-    cond (tooSmall order || tooSmall fates) (leavesAll Refusal.Room 0 order fates) planned
+abbrev pub tooSmall : List ℕ → Bool
+tooSmall = tooSmallUpTo mostJobs
+
+unfoldable pub planningOfUpTo : ℕ → Taken → List ℕ → List ℕ → AfterPlanning
+planningOfUpTo most k order fates =
+    let planned = leavesOf k order fates in
+    cond (tooSmallUpTo most order || tooSmallUpTo most fates) (leavesAll Refusal.Room 0 order fates) planned
+
+-- Planning, of the records that were taken or of their refusal.
+abbrev pub planningOf : Taken → List ℕ → List ℕ → AfterPlanning
+planningOf = planningOfUpTo mostJobs
+
+-- "The planner takes a text".
+abbrev pub planning : List ℕ → List ℕ → List ℕ → AfterPlanning
+planning text = planningOf (read text)

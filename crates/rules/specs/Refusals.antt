@@ -6,9 +6,9 @@ use mathlib.Core.Option.{Option, none, some}
 use Prim.Native.Nat.{ℕ, _+_}
 use lib.Dec.{leb, ltb, eqb}
 use lib.ListN.{length, drop}
-use Rattle.rules.specs.Answers.{Answer, TableAnswer, good, refused}
+use Rattle.rules.specs.Answers.{Answer, ReadAnswer, good, refused}
 use Rattle.rules.specs.Lists.{any, empty, lastOr}
-use Rattle.rules.specs.TableText.{Record, Records, inRange, linesOf, mostHolds, mostJobs, mostSpeeds, noHold, noJob, noRecords, noSpeed, recordsOf, shapeOf, tableOf, textOf}
+use Rattle.rules.specs.TableText.{Record, Records, inRange, linesOf, mostHolds, mostJobs, mostSpeeds, noHold, noJob, noRecords, noSpeed, recordsOf, shapeOf, tableOfUpTo, textOf, withClock, withHolds, withJobs, withSpeeds}
 use Rattle.rules.specs.declared.Refusal.{Refusal}
 use Rattle.rules.specs.declared.Job.{Job}
 use Rattle.rules.specs.declared.Hold.{Hold}
@@ -60,11 +60,14 @@ unfoldable pub outOfOrder : Before → Record → Bool
 outOfOrder b r = not (mayStand b r && rises (b .records) r)
 
 -- 4: "a 17th F or a 65th J"
-unfoldable pub tooMany : Records → Record → Bool
-tooMany r (Record.T clock budget) = false
-tooMany r (Record.F f) = leb mostSpeeds (length (r .speeds))
-tooMany r (Record.J j) = leb mostJobs (length (r .jobs))
-tooMany r (Record.H h) = false
+unfoldable pub tooManyUpTo : ℕ → Records → Record → Bool
+tooManyUpTo most r (Record.T clock budget) = false
+tooManyUpTo most r (Record.F f) = leb mostSpeeds (length (r .speeds))
+tooManyUpTo most r (Record.J j) = leb most (length (r .jobs))
+tooManyUpTo most r (Record.H h) = false
+
+abbrev pub tooMany : Records → Record → Bool
+tooMany = tooManyUpTo mostJobs
 
 -- 5: "critical is after termination"
 unfoldable pub criticalAfter : Record → Bool
@@ -94,21 +97,32 @@ ownRequest r (Record.J j) = false
 ownRequest r (Record.H h) = any (asksOwn h) (r .jobs)
 
 -- "within a line, the lowest number in the order 1 to 7"
-unfoldable pub faultOf : Before → Record → Option Refusal
-faultOf b r =
+unfoldable pub faultOfUpTo : ℕ → Before → Record → Option Refusal
+faultOfUpTo most b r =
     cond (outOfRange r) (some Refusal.Range)
     (cond (outOfOrder b r) (some Refusal.Order)
-    (cond (tooMany (b .records) r) (some Refusal.TooMany)
+    (cond (tooManyUpTo most (b .records) r) (some Refusal.TooMany)
     (cond (criticalAfter r) (some Refusal.CriticalAfterTermination)
     (cond (unknownJob (b .records) r) (some Refusal.UnknownJob)
     (cond (ownRequest (b .records) r) (some Refusal.OwnRequest) none)))))
 
+abbrev pub faultOf : Before → Record → Option Refusal
+faultOf = faultOfUpTo mostJobs
+
 -- the records with one more at the end of its letter's
 unfoldable pub added : Records → Record → Records
-added r (Record.T clock budget) = record { clock = clock; budget = budget; speeds = r .speeds; jobs = r .jobs; holds = r .holds }
-added r (Record.F f) = record { clock = r .clock; budget = r .budget; speeds = r .speeds ++ f ∷ []; jobs = r .jobs; holds = r .holds }
-added r (Record.J j) = record { clock = r .clock; budget = r .budget; speeds = r .speeds; jobs = r .jobs ++ j ∷ []; holds = r .holds }
-added r (Record.H h) = record { clock = r .clock; budget = r .budget; speeds = r .speeds; jobs = r .jobs; holds = r .holds ++ h ∷ [] }
+added r (Record.T clock budget) = withClock r clock budget
+added r (Record.F f) = withSpeeds r (r .speeds ++ f ∷ [])
+added r (Record.J j) = withJobs r (r .jobs ++ j ∷ [])
+added r (Record.H h) = withHolds r (r .holds ++ h ∷ [])
+
+-- what stands before a line once the T has been read
+abbrev pub begunWith : Records → Before
+begunWith r = record { begun = true; records = r }
+
+-- what stands before the next line, once this record is accepted
+abbrev pub withMore : Before → Record → Before
+withMore b r = begunWith (added (b .records) r)
 
 -- One line: what stands before the next, or the refusal.
 pub data Judged : Type 0 where
@@ -116,12 +130,15 @@ pub data Judged : Type 0 where
   refusedFor : Refusal → Judged
 
 unfoldable pub judged : Before → Record → Option Refusal → Judged
-judged b r none = accepted (record { begun = true; records = added (b .records) r })
+judged b r none = accepted (withMore b r)
 judged b r (some why) = refusedFor why
 
-unfoldable pub accept : Before → Item → Judged
-accept b (one r) = judged b r (faultOf b r)
-accept b (bad why) = refusedFor why
+unfoldable pub acceptUpTo : ℕ → Before → Item → Judged
+acceptUpTo most b (one r) = judged b r (faultOfUpTo most b r)
+acceptUpTo most b (bad why) = refusedFor why
+
+abbrev pub accept : Before → Item → Judged
+accept = acceptUpTo mostJobs
 
 -- "The first bad line decides": all lines from one on, with what stands before it.
 pub data Taken : Type 0 where
@@ -136,13 +153,19 @@ unfoldable pub andThen : Judged → (Before → Taken) → ℕ → Taken
 andThen (accepted b) more line = more b
 andThen (refusedFor why) more line = refusedAt why line
 
-unfoldable pub takeFrom : ℕ → Before → List Item → Taken
-takeFrom line b [] = atEnd line b
-takeFrom line b (i ∷ is) = andThen (accept b i) (λ next. takeFrom (line + 1) next is) line
+unfoldable pub takeFromUpTo : ℕ → ℕ → Before → List Item → Taken
+takeFromUpTo most line b [] = atEnd line b
+takeFromUpTo most line b (i ∷ is) = andThen (acceptUpTo most b i) (λ next. takeFromUpTo most (line + 1) next is) line
+
+abbrev pub takeFrom : ℕ → Before → List Item → Taken
+takeFrom = takeFromUpTo mostJobs
 
 -- The reader: each line of the text, from line 1.
-unfoldable pub read : List ℕ → Taken
-read text = takeFrom 1 nothing (itemsIn (linesOf text))
+unfoldable pub readUpTo : ℕ → List ℕ → Taken
+readUpTo most text = takeFromUpTo most 1 nothing (itemsIn (linesOf text))
+
+abbrev pub read : List ℕ → Taken
+read = readUpTo mostJobs
 
 -- The writer "checks the records first (2 to 7, with the line the record would have had)". "Where a count is beyond the
 -- table's places, the first record beyond is refused 4 for F and J, 3 for any other letter."
@@ -155,27 +178,43 @@ speedItems t =
     cond (eqb (t .«speed_count») 0) (bad Refusal.Order ∷ [])
     (map (λ f. one (Record.F f)) (recordsOf t .speeds) ++ beyond mostSpeeds (t .«speed_count») Refusal.TooMany)
 
-unfoldable pub jobItems : Table → List Item
-jobItems t = map (λ j. one (Record.J j)) (recordsOf t .jobs) ++ beyond mostJobs (t .«job_count») Refusal.TooMany
+unfoldable pub jobItemsUpTo : ℕ → Table → List Item
+jobItemsUpTo most t = map (λ j. one (Record.J j)) (recordsOf t .jobs) ++ beyond most (t .«job_count») Refusal.TooMany
+
+abbrev pub jobItems : Table → List Item
+jobItems = jobItemsUpTo mostJobs
 
 unfoldable pub holdItems : Table → List Item
 holdItems t = map (λ h. one (Record.H h)) (recordsOf t .holds) ++ beyond mostHolds (t .«hold_count») Refusal.Order
 
 -- "A table handed to it always has a T"
-unfoldable pub itemsOf : Table → List Item
-itemsOf t = one (Record.T (recordsOf t .clock) (recordsOf t .budget)) ∷ (speedItems t ++ (jobItems t ++ holdItems t))
+unfoldable pub itemsOfUpTo : ℕ → Table → List Item
+itemsOfUpTo most t =
+    one (Record.T (recordsOf t .clock) (recordsOf t .budget)) ∷ (speedItems t ++ (jobItemsUpTo most t ++ holdItems t))
+
+abbrev pub itemsOf : Table → List Item
+itemsOf = itemsOfUpTo mostJobs
 
 -- A table's records, if they are valid.
-unfoldable pub check : Table → Taken
-check t = takeFrom 1 nothing (itemsOf t)
+unfoldable pub checkUpTo : ℕ → Table → Taken
+checkUpTo most t = takeFromUpTo most 1 nothing (itemsOfUpTo most t)
+
+abbrev pub check : Table → Taken
+check = checkUpTo mostJobs
 
 -- The reader's answer.
-unfoldable pub tableAnswer : Taken → TableAnswer
-tableAnswer (taken r) = record { answer = good []; table = tableOf r }
-tableAnswer (refusedAt why line) = record { answer = refused why line []; table = tableOf noRecords }
+unfoldable pub tableAnswerUpTo : ℕ → Taken → ReadAnswer
+tableAnswerUpTo most (taken r) = record { answer = good []; table = tableOfUpTo most r }
+tableAnswerUpTo most (refusedAt why line) = record { answer = refused why line []; table = tableOfUpTo most noRecords }
 
-unfoldable pub reading : List ℕ → TableAnswer
-reading text = tableAnswer (read text)
+abbrev pub tableAnswer : Taken → ReadAnswer
+tableAnswer = tableAnswerUpTo mostJobs
+
+unfoldable pub readingUpTo : ℕ → List ℕ → ReadAnswer
+readingUpTo most text = tableAnswerUpTo most (readUpTo most text)
+
+abbrev pub reading : List ℕ → ReadAnswer
+reading = readingUpTo mostJobs
 
 -- What a call that writes leaves: its answer, and the whole lent buffer.
 pub record AfterWriting : Type 0 where

@@ -1,5 +1,5 @@
 -- Document 01, "The table text": what a number, a line and a record are, their ranges, and a table's text.
-use mathlib.Core.Bool.{Bool, false, cond, not, _&&_, _||_}
+use mathlib.Core.Bool.{Bool, false, cond, not, _&&_}
 use mathlib.Core.List.{List, [], _∷_, _++_, map}
 use mathlib.Core.Option.{Option, none, some}
 use Prim.Native.Nat.{ℕ, zero, suc, _+_, _-_, _*_, _/_, _%_, _^_}
@@ -33,9 +33,21 @@ letterJ = 74
 abbrev pub letterH : ℕ
 letterH = 72
 
+-- The letter table, "Fields after the letter": how many numbers stand behind each letter, and 0 for any other byte.
+unfoldable pub fieldCount : ℕ → ℕ
+fieldCount b =
+    cond (eqb b letterT) 2
+    (cond (eqb b letterF) 2
+    (cond (eqb b letterJ) 6
+    (cond (eqb b letterH) 2 0)))
+
+-- The most numbers behind a letter.
+abbrev pub mostFields : ℕ
+mostFields = 6
+
 -- a letter of one of the four records
 unfoldable pub isLetter : ℕ → Bool
-isLetter b = eqb b letterT || eqb b letterF || eqb b letterJ || eqb b letterH
+isLetter b = not (eqb (fieldCount b) 0)
 
 -- a byte put at the front of the first part
 unfoldable pub ontoFirst : ℕ → List (List ℕ) → List (List ℕ)
@@ -97,12 +109,12 @@ pub data Record : Type 0 where
 abbrev pub nth : List ℕ → ℕ → ℕ
 nth ns i = getD ns i 0
 
--- the letter and the field count decide
-unfoldable pub recordOf : ℕ → List ℕ → Option Record
-recordOf letter ns =
-    cond (eqb letter letterT && eqb (length ns) 2) (some (T (nth ns 0) (nth ns 1)))
-    (cond (eqb letter letterF && eqb (length ns) 2) (some (F (record { mhz = nth ns 0; cost = nth ns 1 })))
-    (cond (eqb letter letterJ && eqb (length ns) 6)
+-- the record that a letter makes of its numbers
+unfoldable pub letterRecord : ℕ → List ℕ → Option Record
+letterRecord letter ns =
+    cond (eqb letter letterT) (some (T (nth ns 0) (nth ns 1)))
+    (cond (eqb letter letterF) (some (F (record { mhz = nth ns 0; cost = nth ns 1 })))
+    (cond (eqb letter letterJ)
     (some
     (J
     (record {
@@ -113,7 +125,11 @@ recordOf letter ns =
       termination = nth ns 4;
       request = nth ns 5;
     })))
-    (cond (eqb letter letterH && eqb (length ns) 2) (some (H (record { resource = nth ns 0; holder = nth ns 1 }))) none)))
+    (cond (eqb letter letterH) (some (H (record { resource = nth ns 0; holder = nth ns 1 }))) none)))
+
+-- the letter and the field count decide
+unfoldable pub recordOf : ℕ → List ℕ → Option Record
+recordOf letter ns = cond (eqb (length ns) (fieldCount letter)) (letterRecord letter ns) none
 
 unfoldable pub withNumbers : ℕ → Option (List ℕ) → Option Record
 withNumbers letter none = none
@@ -130,36 +146,59 @@ fieldsRecord ((a ∷ (b ∷ bs)) ∷ fs) = none
 unfoldable pub shapeOf : List ℕ → Option Record
 shapeOf line = fieldsRecord (fieldsOf line)
 
--- The ranges: "0..1,000,000,000 ms; 0..10^15 units", "1..4,000 MHz; 1..4,000,000 units per million cycles", and so on.
-unfoldable pub isTime : ℕ → Bool
-isTime n = within 0 1000000000 n
+-- The ends of the ranges: "0..1,000,000,000 ms; 0..10^15 units", "1..4,000 MHz; 1..4,000,000 units per million cycles",
+-- "1..9,999; 1..1,000,000 million cycles; 0..1,000,000; two times 0..1,000,000,000 ms; 0..32", "1..32; 1..9,999".
+abbrev pub mostTime : ℕ
+mostTime = 1000000000
 
-unfoldable pub isBudget : ℕ → Bool
-isBudget n = within 0 (10 ^ 15) n
+abbrev pub mostBudget : ℕ
+mostBudget = 10 ^ 15
 
-unfoldable pub isMhz : ℕ → Bool
-isMhz n = within 1 4000 n
+abbrev pub mostMhz : ℕ
+mostMhz = 4000
 
-unfoldable pub isCost : ℕ → Bool
-isCost n = within 1 4000000 n
+abbrev pub mostCost : ℕ
+mostCost = 4000000
 
-unfoldable pub isJobNumber : ℕ → Bool
-isJobNumber n = within 1 9999 n
+abbrev pub mostJobNumber : ℕ
+mostJobNumber = 9999
 
 abbrev pub mostCycles : ℕ
 mostCycles = 1000000
+
+abbrev pub mostWorth : ℕ
+mostWorth = 1000000
+
+abbrev pub mostResource : ℕ
+mostResource = 32
+
+-- The ranges.
+unfoldable pub isTime : ℕ → Bool
+isTime n = within 0 mostTime n
+
+unfoldable pub isBudget : ℕ → Bool
+isBudget n = within 0 mostBudget n
+
+unfoldable pub isMhz : ℕ → Bool
+isMhz n = within 1 mostMhz n
+
+unfoldable pub isCost : ℕ → Bool
+isCost n = within 1 mostCost n
+
+unfoldable pub isJobNumber : ℕ → Bool
+isJobNumber n = within 1 mostJobNumber n
 
 unfoldable pub isCycles : ℕ → Bool
 isCycles n = within 1 mostCycles n
 
 unfoldable pub isWorth : ℕ → Bool
-isWorth n = within 0 1000000 n
+isWorth n = within 0 mostWorth n
 
 unfoldable pub isResource : ℕ → Bool
-isResource n = within 1 32 n
+isResource n = within 1 mostResource n
 
 unfoldable pub isRequest : ℕ → Bool
-isRequest n = within 0 32 n
+isRequest n = within 0 mostResource n
 
 unfoldable pub inRange : Record → Bool
 inRange (T clock budget) = isTime clock && isBudget budget
@@ -173,7 +212,9 @@ inRange (J j) =
     && isRequest (j .request)
 inRange (H h) = isResource (h .resource) && isJobNumber (h .holder)
 
--- "One T, as line 1; then 1 to 16 F ..; then 0 to 64 J ..; then H".
+-- "One T, as line 1; then 1 to 16 F ..; then 0 to 64 J ..; then H": resources rise, so that there is at most one H for each.
+-- Where the most J that a table may have is an argument of a definition, the name ends in UpTo; the name without it is the rule
+-- at `mostJobs`.
 abbrev pub mostSpeeds : ℕ
 mostSpeeds = 16
 
@@ -181,7 +222,7 @@ abbrev pub mostJobs : ℕ
 mostJobs = 64
 
 abbrev pub mostHolds : ℕ
-mostHolds = 32
+mostHolds = mostResource
 
 -- A table's records.
 pub record Records : Type 0 where
@@ -192,8 +233,21 @@ pub record Records : Type 0 where
   pub holds : List Hold
 
 -- The table without records: "0 and 0 in the table without records".
-unfoldable pub noRecords : Records
+abbrev pub noRecords : Records
 noRecords = record { clock = 0; budget = 0; speeds = []; jobs = []; holds = [] }
+
+-- The records with another T, or with others of one letter: all else stays.
+abbrev pub withClock : Records → ℕ → ℕ → Records
+withClock r clock budget = record { clock = clock; budget = budget; speeds = r .speeds; jobs = r .jobs; holds = r .holds }
+
+abbrev pub withSpeeds : Records → List Speed → Records
+withSpeeds r fs = record { clock = r .clock; budget = r .budget; speeds = fs; jobs = r .jobs; holds = r .holds }
+
+abbrev pub withJobs : Records → List Job → Records
+withJobs r js = record { clock = r .clock; budget = r .budget; speeds = r .speeds; jobs = js; holds = r .holds }
+
+abbrev pub withHolds : Records → List Hold → Records
+withHolds r hs = record { clock = r .clock; budget = r .budget; speeds = r .speeds; jobs = r .jobs; holds = hs }
 
 -- "Two tables are the same when they have the same records": those in the first so many places, for counts that are not
 -- beyond the places.
@@ -219,16 +273,32 @@ noHold = record { resource = 0; holder = 0 }
 abbrev pub padded : {A : Type 0} → ℕ → A → List A → List A
 padded places a xs = xs ++ replicate (places - length xs) a
 
-unfoldable pub tableOf : Records → Table
-tableOf r = record {
+unfoldable pub tableOfUpTo : ℕ → Records → Table
+tableOfUpTo most r = record {
   clock = r .clock;
   budget = r .budget;
   «speed_count» = length (r .speeds);
   «job_count» = length (r .jobs);
   «hold_count» = length (r .holds);
   speeds = padded mostSpeeds noSpeed (r .speeds);
-  jobs = padded mostJobs noJob (r .jobs);
+  jobs = padded most noJob (r .jobs);
   holds = padded mostHolds noHold (r .holds);
+}
+
+abbrev pub tableOf : Records → Table
+tableOf = tableOfUpTo mostJobs
+
+-- a table with other counts
+abbrev pub withCounts : Table → ℕ → ℕ → ℕ → Table
+withCounts t speeds jobs holds = record {
+  clock = t .clock;
+  budget = t .budget;
+  «speed_count» = speeds;
+  «job_count» = jobs;
+  «hold_count» = holds;
+  speeds = t .speeds;
+  jobs = t .jobs;
+  holds = t .holds;
 }
 
 -- The decimal digits of n, at most f + 1 of them.

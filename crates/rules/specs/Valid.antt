@@ -2,7 +2,7 @@
 -- records, each part by name.
 use mathlib.Core.Path.{_≡_}
 use mathlib.Core.Bool.{true, false}
-use Prim.Native.Nat.{_≤_}
+use Prim.Native.Nat.{ℕ, _≤_}
 use lib.ListN.{length}
 use Rattle.rules.specs.Lists.{Each, Rising, any}
 use Rattle.rules.specs.Refusals.{asksOwn, isHolder}
@@ -12,7 +12,7 @@ use Rattle.rules.specs.declared.Job.{Job}
 use Rattle.rules.specs.declared.Hold.{Hold}
 use Rattle.rules.specs.declared.Table.{Table}
 
-pub record Valid (r : Records) : Type 0 where
+pub record ValidUpTo (most : ℕ) (r : Records) : Type 0 where
   -- every number is in its range
   pub clock-range : inRange (Record.T (r .clock) (r .budget)) ≡ true
   pub speed-ranges : Each (λ f. inRange (Record.F f) ≡ true) (r .speeds)
@@ -23,7 +23,7 @@ pub record Valid (r : Records) : Type 0 where
   pub few-speeds : length (r .speeds) ≤ mostSpeeds
   pub speeds-rise : Rising (λ (f : Speed). f .mhz) (r .speeds)
   -- "0 to 64 J, numbers strictly rising"
-  pub few-jobs : length (r .jobs) ≤ mostJobs
+  pub few-jobs : length (r .jobs) ≤ most
   pub jobs-rise : Rising (λ (j : Job). j .number) (r .jobs)
   -- "H, resources strictly rising"
   pub holds-rise : Rising (λ (h : Hold). h .resource) (r .holds)
@@ -33,8 +33,14 @@ pub record Valid (r : Records) : Type 0 where
   pub holders-known : Each (λ h. any (isHolder h) (r .jobs) ≡ true) (r .holds)
   pub none-asks-own : Each (λ h. any (asksOwn h) (r .jobs) ≡ false) (r .holds)
 
+abbrev pub Valid : Records → Type 0
+Valid = ValidUpTo mostJobs
+
 -- No count is "beyond the table's places".
-pub record WithinPlaces (t : Table) : Type 0 where
+pub record WithinPlacesUpTo (most : ℕ) (t : Table) : Type 0 where
   pub speeds-fit : t .«speed_count» ≤ mostSpeeds
-  pub jobs-fit : t .«job_count» ≤ mostJobs
+  pub jobs-fit : t .«job_count» ≤ most
   pub holds-fit : t .«hold_count» ≤ mostHolds
+
+abbrev pub WithinPlaces : Table → Type 0
+WithinPlaces = WithinPlacesUpTo mostJobs

@@ -12,6 +12,12 @@ pub const MOST_JOBS: usize = 64;
 
 pub const MOST_HOLDS: usize = 32;
 
+// The most numbers behind a letter.
+pub const MOST_FIELDS: usize = 6;
+
+// The most cycles of a job, in millions, and the most that are allocated.
+pub const MOST_CYCLES: u64 = 1000000;
+
 // Fates, as steps 1, 2, 5, 7 and 8 number them, and that of a job which has none yet.
 pub const NO_FATE: u64 = 0;
 

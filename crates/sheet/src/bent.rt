@@ -49,7 +49,7 @@ fn speeds(table: Table) {
 }
 
 // A job that is otherwise good.
-fn job(number: u64, critical: u64, worth: u64) -> Job {
+fn bent_job(number: u64, critical: u64, worth: u64) -> Job {
     Job {
         number: number,
         cycles: 1,
@@ -62,11 +62,11 @@ fn job(number: u64, critical: u64, worth: u64) -> Job {
 
 fn jobs(table: Table) {
     let mut bent = table;
-    bent.jobs[63] = job(9999, 1, 0);
+    bent.jobs[63] = bent_job(9999, 1, 0);
     write_bent(b"the last job is critical after its termination", bent);
-    bent.jobs[1] = job(1, 0, 0);
+    bent.jobs[1] = bent_job(1, 0, 0);
     write_bent(b"the second job does not rise", bent);
-    bent.jobs[0] = job(1, 0, 1000001);
+    bent.jobs[0] = bent_job(1, 0, 1000001);
     write_bent(b"the first job's worth above its range", bent);
 }
 

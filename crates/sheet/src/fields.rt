@@ -5,11 +5,10 @@ use crate::report::put_refusal;
 use front::Kind;
 use rules::Field;
 use text::Cursor;
-
-const LETTER_J: u64 = 74;
+use text::field_count;
 
 // No text that is walked has more fields.
-const MOST_FIELDS: usize = 1000;
+const MOST_TAKEN: usize = 1000;
 
 // Which field comes next, by how many numbers the line still has: a letter, a number, or the line's last.
 fn kind_of(left: u64) -> Kind {
@@ -27,10 +26,7 @@ fn left_behind(left: u64, value: u64) -> u64 {
     if 0 < left {
         return left - 1;
     }
-    if value == LETTER_J {
-        return 6;
-    }
-    2
+    field_count(value) as u64
 }
 
 fn put_field(left: u64, line: u64, value: u64) {
@@ -44,7 +40,7 @@ fn put_field(left: u64, line: u64, value: u64) {
 pub(crate) fn every_field(text: &[u8]) {
     let mut place = Cursor { at: 0, line: 1 };
     let mut left: u64 = 0;
-    for _ in 0..MOST_FIELDS {
+    for _ in 0..MOST_TAKEN {
         if left == 0 && text.len() <= place.at {
             return;
         }

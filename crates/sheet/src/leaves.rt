@@ -4,7 +4,7 @@ use crate::report::put_refusal;
 use rules::Allocated;
 use rules::Verdict;
 
-fn allocation(mean: u64, variance: u64, assurance: u64) {
+fn put_allocation(mean: u64, variance: u64, assurance: u64) {
     put_numbers(b"# allocate", &[mean, variance, assurance]);
     match cycles::allocate(mean, variance, assurance) {
         Allocated::Cycles(allocated) => put_numbers(b"cycles", &[allocated]),
@@ -14,19 +14,19 @@ fn allocation(mean: u64, variance: u64, assurance: u64) {
 
 // The sheet's, the ends of the ranges, and each number outside its range.
 pub(crate) fn allocations() {
-    allocation(100, 100, 900);
-    allocation(100, 101, 900);
-    allocation(100, 100, 0);
-    allocation(1000000, 1, 500);
-    allocation(1, 0, 999);
-    allocation(1000000, 1000000000000, 0);
-    allocation(1, 1000000000000, 499);
-    allocation(1, 1000000000000, 500);
-    allocation(0, 100, 900);
-    allocation(1000001, 0, 0);
-    allocation(100, 1000000000001, 0);
-    allocation(100, 100, 1000);
-    allocation(u64::MAX, u64::MAX, u64::MAX);
+    put_allocation(100, 100, 900);
+    put_allocation(100, 101, 900);
+    put_allocation(100, 100, 0);
+    put_allocation(1000000, 1, 500);
+    put_allocation(1, 0, 999);
+    put_allocation(1000000, 1000000000000, 0);
+    put_allocation(1, 1000000000000, 499);
+    put_allocation(1, 1000000000000, 500);
+    put_allocation(0, 100, 900);
+    put_allocation(1000001, 0, 0);
+    put_allocation(100, 1000000000001, 0);
+    put_allocation(100, 100, 1000);
+    put_allocation(u64::MAX, u64::MAX, u64::MAX);
 }
 
 fn supply(model: u64) {

@@ -25,7 +25,7 @@ mod room;
 use report::put;
 
 // No text that is tried is longer.
-const MOST_READ: usize = 8192;
+const MOST_INPUT: usize = 8192;
 
 // The four letters of the report and the colon.
 const REPORT: usize = 5;
@@ -58,7 +58,7 @@ fn run_file(letter: u8, path: &[u8]) {
         os::fail(path);
         return;
     }
-    let mut text = [0u8; MOST_READ];
+    let mut text = [0u8; MOST_INPUT];
     let count = io::read_full(fd, &mut text);
     libc::close(fd);
     run(letter, &text[..count]);

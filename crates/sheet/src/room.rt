@@ -12,7 +12,7 @@ const MARK: u8 = b'.';
 const BYTES: usize = 64;
 
 // How many bytes were written, 0 where refused.
-fn count_of(written: Written) -> usize {
+fn bytes_written(written: Written) -> usize {
     match written {
         Written::Length(count) => count,
         Written::Refused(_, _) => 0,
@@ -24,7 +24,7 @@ fn put_buffer(written: Written, buffer: &[u8; BYTES]) -> usize {
     put_written(written);
     put(buffer);
     put(b"\n");
-    count_of(written)
+    bytes_written(written)
 }
 
 // `list`, with so many places of the buffer.

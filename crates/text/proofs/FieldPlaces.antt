@@ -15,14 +15,14 @@ use lib.ListN.{length, drop, getD, length-drop}
 use lib.Seq.{drop-append-le, drop-append-seam, drop-drop, getD-drop}
 use Rattle.laws.proofs.Choices.{neither, nothing-there}
 use Rattle.laws.proofs.Elements.{each-at-place}
-use Rattle.laws.proofs.LineNumbers.{begins}
-use Rattle.laws.proofs.PartPlaces.{begin-next, last-part-at, part-at, part-within, parted-lacks, parted-without}
-use Rattle.laws.proofs.Parted.{Without, parted-some}
-use Rattle.laws.specs.PartPlaces.{beginOf}
+use Rattle.grammar.proofs.LineNumbers.{begins}
+use Rattle.grammar.proofs.PartPlaces.{begin-next, last-part-at, part-at, part-within, parted-lacks, parted-without}
+use Rattle.grammar.proofs.Parted.{Without, parted-some}
+use Rattle.grammar.specs.PartPlaces.{beginOf}
 use Rattle.rules.specs.Answers.{good}
 use Rattle.rules.specs.Lists.{all, onlyIf}
-use Rattle.rules.specs.TableText.{fieldsOf, isDigit, isLetter, isNumber, lineFeed, linesOf, numberIn, tab, valueFrom}
-use Rattle.text.specs.FieldPlaces.{endAt, fieldAnswer, fieldAt, fieldsAt, letterIn, letterOf, lineAt, placeAt, placeBehind}
+use Rattle.rules.specs.TableText.{fieldCount, fieldsOf, isDigit, isLetter, isNumber, lineFeed, linesOf, numberIn, tab, valueFrom}
+use Rattle.text.specs.FieldPlaces.{endAt, fieldAnswer, fieldAt, fieldsAt, letterIn, lineLetter, lineAt, placeAt, placeBehind}
 use Rattle.text.specs.Fields.{FieldsTold, behindByte, front, letterAt, lineBehind, mostLine, numberAt, refusedField, standsAt}
 use Rattle.text.specs.declared.Cursor.{Cursor}
 use Rattle.text.proofs.Rows.{stands-begins}
@@ -134,7 +134,7 @@ module _ (text : List ℕ) (place : Cursor) (rest : List ℕ) where
   first-byte b r e = sym (rw (getD-drop (place .at) text 0 0, add-zero)) ∙ ap (λ s. getD s 0 0) e
 
   end-no-letter : (t : Bool) → isLetter (End t) ≡ false
-  unfolding isLetter
+  unfolding fieldCount isLetter
   end-no-letter true = refl
   end-no-letter false = refl
 
@@ -319,7 +319,7 @@ module _ (text : List ℕ) (l : ℕ) (some-line : 1 ≤ l) (ended-line : l < len
         ∙ behind-by-test (ltb (suc k) (length (fieldsAt text l))) refl few
 
   -- At the first place of line l the cursor takes the line's letter, or refuses 1 with line l.
-  pub letter-taken : letterAt text (placeAt text l 0) .says ≡ fieldAnswer l (letterOf text l)
+  pub letter-taken : letterAt text (placeAt text l 0) .says ≡ fieldAnswer l (lineLetter text l)
   unfolding fieldsOf
   letter-taken =
       let there : 0 < length (fieldsAt text l) = parted-some tab line in
@@ -327,7 +327,7 @@ module _ (text : List ℕ) (l : ℕ) (some-line : 1 ≤ l) (ended-line : l < len
       letter-answered text (placeAt text l 0) (h .0) (ltb 1 (length (fieldsAt text l))) (fieldAt text l 0) (h .1) (field-no-tab 0 there)
 
   -- A letter taken, the place is that of field 1.
-  pub letter-behind : (b : ℕ) → letterOf text l ≡ some b → letterAt text (placeAt text l 0) .next ≡ placeAt text l 1
+  pub letter-behind : (b : ℕ) → lineLetter text l ≡ some b → letterAt text (placeAt text l 0) .next ≡ placeAt text l 1
   unfolding fieldsOf lineBehind
   letter-behind b e =
       let there : 0 < length (fieldsAt text l) = parted-some tab line in

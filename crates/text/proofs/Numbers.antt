@@ -14,7 +14,7 @@ use lib.Seq.{drop-cons, getD-drop}
 use Rattle.rules.specs.Lists.{all}
 use Rattle.rules.specs.TableText.{digitZero, isDigit, isNumber, leadingZero, mostDigits, valueFrom}
 use Rattle.laws.proofs.Tests.{both-true}
-use Rattle.text.specs.declared.Run.{Run}
+use Rattle.text.specs.declared.DigitRun.{DigitRun}
 use Rattle.text.specs.Fields.{DigitsRead, front, shaped}
 
 pub front-none : (s : List ℕ) (i : ℕ) → length s ≤ i → front (drop i s) ≡ []
@@ -122,14 +122,14 @@ front-shaped [] = refl
 front-shaped (b ∷ bs) = shaped-by-test (isDigit b) b (front bs) refl (front-digits bs)
 
 -- and so they are by as many of them as are read
-read-by-test : (t : Bool) (ds : List ℕ) (first : ℕ) (r : Run) → DigitsRead ds r → leb (r .count) mostDigits ≡ t
+read-by-test : (t : Bool) (ds : List ℕ) (first : ℕ) (r : DigitRun) → DigitsRead ds r → leb (r .count) mostDigits ≡ t
     → shaped (length ds) first ≡ shaped (r .count) first
 unfolding shaped
 read-by-test true ds first r read e = rw (read .all (leb-true (r .count) mostDigits e) .0)
 read-by-test false ds first r read e =
     simp (e, lt-leb (length ds) mostDigits (omega (arith, read .within, leb-false (r .count) mostDigits e)), and-false)
 
-pub read-shaped : (s : List ℕ) (at : ℕ) (r : Run) → DigitsRead (front (drop at s)) r
+pub read-shaped : (s : List ℕ) (at : ℕ) (r : DigitRun) → DigitsRead (front (drop at s)) r
     → isNumber (front (drop at s)) ≡ shaped (r .count) (getD s at 0)
 read-shaped s at r read =
     let first : getD (drop at s) 0 0 ≡ getD s at 0 = rw (getD-drop at s 0 0, add-zero) in

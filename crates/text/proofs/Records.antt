@@ -3,49 +3,39 @@
 -- nor has one whose row is refused. Assumes nothing.
 use mathlib.Core.Path.{_≡_, refl, sym, ap, _∙_}
 use mathlib.Core.Bool.{Bool, true, false, cond, _&&_}
-use mathlib.Core.List.{List, [], _∷_}
+use mathlib.Core.List.{List, [], _∷_, _++_}
 use mathlib.Core.Option.{Option, none, some}
-use Prim.Native.Nat.{ℕ, suc, _+_, _≤_}
+use Prim.Native.Nat.{ℕ, _+_, _≤_}
 use native.Mathlib.Numerals.{add-one}
 use native.Mathlib.Omega.{arith}
+use borrow.Author.Tests.{eq-eqb}
 use lib.ListN.{length, drop, getD}
 use lib.Seq.{drop-cons, drop-drop}
 use Rattle.rules.specs.Answers.{good}
-use Rattle.rules.specs.TableText.{Record, isLetter, lineFeed, nth, recordOf, tab, withNumbers}
+use Rattle.rules.specs.TableText.{Record, fieldCount, isLetter, letterRecord, lineFeed, nth, recordOf, tab, withNumbers}
 use Rattle.rules.specs.Refusals.{bad, itemShaped, one}
 use Rattle.rules.specs.declared.Field.{Field}
 use Rattle.rules.specs.declared.Refusal.{Refusal}
-use Rattle.laws.specs.FirstLine.{firstItem, restOf}
-use Rattle.laws.proofs.LineNumbers.{exactly, numbersFrom}
-use Rattle.laws.proofs.Lines.{letter-first, letter-rest, no-letter-first, other-byte-first}
-use Rattle.text.specs.Fields.{FieldsTold, behindByte, isGood, letterAt, lineBehind, refusedField, standsAt, takenSays}
-use Rattle.text.specs.Lines.{LineRead, Row, isRefused, itemOf, lineOf, lineWith, pairsAt, parsedOf, refusedLine, refusedLineOr}
+use Rattle.grammar.specs.FirstLine.{firstItem, restOf}
+use Rattle.laws.proofs.Choices.{nothing-there}
+use Rattle.grammar.proofs.Letters.{no-record-no-fields, numbers-behind-unread}
+use Rattle.grammar.proofs.LineNumbers.{count-decides, exactly, exactly-length, numbersFrom, some-field}
+use Rattle.grammar.proofs.Lines.{letter-first, letter-rest, no-letter-first, other-byte-first}
+use Rattle.text.specs.Fields.{FieldsTold, behindByte, isGood, letterAt, lineBehind, refusedField, rowAt, standsAt, takenSays}
+use Rattle.text.specs.Lines.{LineRead, isRefused, itemOf, parsedOf, parsedWith, refusedLine, refusedLineOr}
 use Rattle.text.specs.declared.Cursor.{Cursor}
-use Rattle.text.specs.declared.Taken.{Taken}
+use Rattle.text.specs.declared.FieldTaken.{FieldTaken}
 use Rattle.text.proofs.Told.{refused-field}
-use Rattle.text.proofs.Rows.{RowRead, row-read, stands, stands-begins, twice}
+use Rattle.text.proofs.Rows.{RowRead, row-read, stands, stands-begins}
 
 -- What was parsed of a record is that record, and no refusal.
-parsed-item : (r : Record) → itemOf (parsedOf r) ≡ one r
-unfolding itemOf
-parsed-item (Record.T clock budget) = refl
-parsed-item (Record.F f) = refl
-parsed-item (Record.J j) = refl
-parsed-item (Record.H h) = refl
-
-parsed-line : (line : ℕ) (r : Record) → refusedLineOr line (parsedOf r) ≡ line
-unfolding refusedLineOr
-parsed-line line (Record.T clock budget) = refl
-parsed-line line (Record.F f) = refl
-parsed-line line (Record.J j) = refl
-parsed-line line (Record.H h) = refl
-
-parsed-taken : (r : Record) → isRefused (parsedOf r) ≡ false
-unfolding isRefused
-parsed-taken (Record.T clock budget) = refl
-parsed-taken (Record.F f) = refl
-parsed-taken (Record.J j) = refl
-parsed-taken (Record.H h) = refl
+parsed-record : (line : ℕ) (r : Record)
+    → (itemOf (parsedOf r) ≡ one r) × (refusedLineOr line (parsedOf r) ≡ line) × (isRefused (parsedOf r) ≡ false)
+unfolding itemOf refusedLineOr isRefused
+parsed-record line (Record.T clock budget) = (refl, refl, refl)
+parsed-record line (Record.F f) = (refl, refl, refl)
+parsed-record line (Record.J j) = (refl, refl, refl)
+parsed-record line (Record.H h) = (refl, refl, refl)
 
 never : {A : Type 0} → true ≡ false → A
 never e = let z : _≡_ {A = ℕ} 0 1 = cc in absurd (omega arith)
@@ -65,11 +55,11 @@ module _ (text : List ℕ) (place : Cursor) where
   record-read : (r : Record) (next : Cursor) → firstItem (drop (place .at) text) ≡ one r
       → restOf (drop (place .at) text) ≡ drop (next .at) text → next .at ≤ length text
       → next .line ≡ lineBehind lineFeed (place .line)
-      → LineRead text place (lineOf place next (some r))
+      → LineRead text place (record { parsed = parsedOf r; next = next })
   record-read r next h rest within line = record {
-    item = parsed-item r ∙ sym h;
-    line = parsed-line (place .line) r;
-    stays = λ e. never (sym e ∙ parsed-taken r);
+    item = parsed-record (place .line) r .0 ∙ sym h;
+    line = parsed-record (place .line) r .1;
+    stays = λ e. never (sym e ∙ parsed-record (place .line) r .2);
     within = λ e. within;
     rest = λ e. sym rest;
     next-line = λ e. line;
@@ -112,7 +102,7 @@ told-lettered : (text : List ℕ) (place : Cursor) (told : FieldsTold) → told 
     → Lettered (isGood told) text place told
 told-lettered text place told e = rw e (letter-read text place)
 
-module _ (text : List ℕ) (place : Cursor) (taken : Taken) (e : takenSays taken ≡ letterAt text place) where
+module _ (text : List ℕ) (place : Cursor) (taken : FieldTaken) (e : takenSays taken ≡ letterAt text place) where
   pub no-letter-read : (why : Refusal) (line : ℕ) → taken .field ≡ Field.Refused why line → LineRead text place (refusedLine place)
   no-letter-read why line f =
       refused-read text place (rw (refused-field taken (takenSays taken) why line refl f) at (told-lettered text place (takenSays taken) e))
@@ -125,32 +115,43 @@ module _ (text : List ℕ) (place : Cursor) (taken : Taken) (e : takenSays taken
     abbrev numbers : Option (List ℕ)
     numbers = numbersFrom (drop (taken .next .at) text)
 
+    abbrev row : FieldsTold
+    row = rowAt (fieldCount letter) text (taken .next)
+
     item-is : (o : Option Record) → withNumbers letter numbers ≡ o → firstItem (drop (place .at) text) ≡ itemShaped o
     item-is o h = ap firstItem (begun .0) ∙ (letter-first letter (drop (taken .next .at) text) ∙ ap itemShaped h)
 
-    made : (row : Row) (o : Option Record) → recordOf letter (row .numbers) ≡ o → withNumbers letter numbers ≡ o
-        → restOf (drop (taken .next .at) text) ≡ drop (row .next .at) text
-        → row .next .at ≤ length text
-        → row .next .line ≡ lineBehind lineFeed (taken .next .line)
-        → LineRead text place (lineOf place (row .next) o)
-    unfolding itemShaped
-    made row none m h rest within line = refused-read text place (item-is none h)
-    made row (some r) m h rest within line =
-        record-read text place r (row .next) (item-is (some r) h)
-        (ap restOf (begun .0) ∙ (letter-rest letter (drop (taken .next .at) text) (row .numbers) r m ∙ rest))
-        within
-        (line ∙ ap (lineBehind lineFeed) (begun .1))
+    -- what its row says of the line: that it has no shape, or the record of the letter
+    row-read-here : RowRead (isGood row) (fieldCount letter) text (taken .next) row
+    row-read-here = row-read (fieldCount letter) text (taken .next)
 
-    row-line : (count : ℕ) (row : Option Row) → withNumbers letter (exactly count numbers) ≡ withNumbers letter numbers
-        → RowRead text (taken .next) count row → LineRead text place (lineWith place letter row)
-    unfolding lineWith withNumbers itemShaped
-    row-line count none enough r = refused-read text place (item-is none (sym enough ∙ ap (withNumbers letter) r))
-    row-line count (some row) enough r =
-        made row (recordOf letter (row .numbers)) refl (sym enough ∙ ap (withNumbers letter) (r .0)) (r .1) (r .2) (r .3)
+    pub no-row-read : isGood row ≡ false → LineRead text place (refusedLine place)
+    unfolding withNumbers itemShaped
+    no-row-read g =
+        let none-there : exactly (fieldCount letter) numbers ≡ none = rw g at row-read-here in
+        refused-read text place (item-is none (sym (count-decides letter numbers) ∙ ap (withNumbers letter) none-there))
 
-    -- read right, if the letter has no record with another count of numbers
-    pub letter-line-read : (more : ℕ)
-        → withNumbers letter (exactly (suc (suc (twice more))) numbers) ≡ withNumbers letter numbers
-        → LineRead text place (lineWith place letter (pairsAt more text (taken .next)))
-    letter-line-read more enough =
-        row-line (suc (suc (twice more))) (pairsAt more text (taken .next)) enough (row-read more text (taken .next))
+    made : (ns : List ℕ) (next : Cursor) (o : Option Record) → letterRecord letter ns ≡ o
+        → RowRead true (fieldCount letter) text (taken .next) (record { says = good ns; next = next })
+        → LineRead text place (record { parsed = parsedWith (place .line) o; next = next })
+    unfolding withNumbers recordOf itemShaped
+    made ns next none m r =
+        let no-field = no-record-no-fields letter ns m in
+        nothing-there (r .0) (ap (λ count. exactly count numbers) no-field ∙ some-field (drop (taken .next .at) text))
+    made ns next (some record-made) m r =
+        let long = eq-eqb (length ns) (fieldCount letter) (exactly-length (fieldCount letter) numbers ns (r .0)) in
+        let is-record : recordOf letter ns ≡ some record-made = rw long m in
+        record-read text place record-made next
+        (item-is (some record-made) (sym (count-decides letter numbers) ∙ ap (withNumbers letter) (r .0) ∙ is-record))
+        (ap restOf (begun .0) ∙ (letter-rest letter (drop (taken .next .at) text) ns record-made is-record ∙ r .1))
+        (r .2)
+        (r .3 ∙ ap (lineBehind lineFeed) (begun .1))
+
+    -- and of numbers that stand behind the row's own nothing is made
+    pub row-made-read : (ns more : List ℕ) (next : Cursor) → record { says = good ns; next = next } ≡ row
+        → LineRead text place (record { parsed = parsedWith (place .line) (letterRecord letter (ns ++ more)); next = next })
+    row-made-read ns more next e =
+        let r : RowRead true (fieldCount letter) text (taken .next) (record { says = good ns; next = next }) =
+        rw (← e) at row-read-here in
+        let long = exactly-length (fieldCount letter) numbers ns (r .0) in
+        made ns next (letterRecord letter (ns ++ more)) (sym (numbers-behind-unread letter ns more long)) r

@@ -6,7 +6,7 @@ use mathlib.Core.Option.{Option, none, some}
 use Prim.Native.Nat.{ℕ, suc, _+_, _-_}
 use lib.Dec.{ltb}
 use lib.ListN.{length, getD}
-use Rattle.laws.specs.PartPlaces.{beginOf}
+use Rattle.grammar.specs.PartPlaces.{beginOf}
 use Rattle.rules.specs.Answers.{Answer, good, refused}
 use Rattle.rules.specs.Lists.{onlyIf}
 use Rattle.rules.specs.TableText.{fieldsOf, isLetter, lineFeed, linesOf, tab}
@@ -47,5 +47,5 @@ letterIn (b ∷ []) = onlyIf (isLetter b) b
 letterIn (b ∷ (c ∷ bs)) = none
 
 -- the letter of line l: it stands alone in the first field, and a tab behind it
-abbrev pub letterOf : List ℕ → ℕ → Option ℕ
-letterOf text l = cond (ltb 1 (length (fieldsAt text l))) (letterIn (fieldAt text l 0)) none
+abbrev pub lineLetter : List ℕ → ℕ → Option ℕ
+lineLetter text l = cond (ltb 1 (length (fieldsAt text l))) (letterIn (fieldAt text l 0)) none

@@ -3,16 +3,16 @@
 use mathlib.Core.Path.{_≡_}
 use mathlib.Core.Bool.{Bool, cond, not, _&&_, _||_}
 use mathlib.Core.List.{List, [], _∷_, _++_}
-use Prim.Native.Nat.{ℕ, _+_, _≤_}
+use Prim.Native.Nat.{ℕ, zero, suc, _+_, _≤_}
 use lib.Dec.{leb, ltb, eqb}
 use lib.ListN.{length, getD, drop}
 use Rattle.rules.specs.Answers.{Answer, fieldSays, good, refused}
 use Rattle.rules.specs.TableText.{digitZero, isDigit, isLetter, isNumber, lineFeed, mostDigits, tab, valueFrom}
 use Rattle.rules.specs.declared.Refusal.{Refusal}
 use Rattle.text.specs.declared.Cursor.{Cursor}
-use Rattle.text.specs.declared.Pair.{Pair}
-use Rattle.text.specs.declared.Run.{Run}
-use Rattle.text.specs.declared.Taken.{Taken}
+use Rattle.text.specs.declared.RowTaken.{RowTaken}
+use Rattle.text.specs.declared.DigitRun.{DigitRun}
+use Rattle.text.specs.declared.FieldTaken.{FieldTaken}
 
 -- the digits that stand at the front of a text
 unfoldable pub front : List ℕ → List ℕ
@@ -21,7 +21,7 @@ front (b ∷ bs) = cond (isDigit b) (b ∷ front bs) []
 
 -- What reading digits promises: no more are counted than stand there; and where no more are counted than a number has,
 -- they are all, with the number that they stand for.
-pub record DigitsRead (digits : List ℕ) (r : Run) : Type 0 where
+pub record DigitsRead (digits : List ℕ) (r : DigitRun) : Type 0 where
   pub within : r .count ≤ length digits
   pub all : r .count ≤ mostDigits → (r .count ≡ length digits) × (r .value ≡ valueFrom 0 digits)
 
@@ -39,7 +39,7 @@ pub record FieldsTold : Type 0 where
   pub next : Cursor
 
 -- a field that is taken, in document 01's numbers
-abbrev pub takenSays : Taken → FieldsTold
+abbrev pub takenSays : FieldTaken → FieldsTold
 takenSays taken = record { says = fieldSays (taken .field); next = taken .next }
 
 -- The line behind the byte that ends a field: behind a line feed it is the next. The greatest number of a line stays; no
@@ -76,24 +76,26 @@ letterAt text place =
     (record { says = good (getD text (place .at) 0 ∷ []); next = behindByte tab (place .at + 1) place })
     (refusedField place)
 
--- two numbers that are taken from a place, in document 01's numbers; the refused ones leave the place where it was
-abbrev pub pairSays : Cursor → Pair → FieldsTold
-pairSays place (Pair.Both a b next) = record { says = good (a ∷ b ∷ []); next = next }
-pairSays place (Pair.Refused why line) = record { says = refused why line []; next = place }
+-- a row that is taken from a place, with its numbers, in document 01's numbers; a refused one leaves the place where it was
+abbrev pub rowSays : Cursor → List ℕ → RowTaken → FieldsTold
+rowSays place numbers (RowTaken.Behind next) = record { says = good numbers; next = next }
+rowSays place numbers (RowTaken.Refused why line) = record { says = refused why line []; next = place }
 
 -- number 0: nothing is refused
 abbrev pub isGood : FieldsTold → Bool
 isGood told = eqb (told .says .number) 0
 
--- what is told of a field and of the one behind it: their values, or the refusal of the line that they begin in
+-- what is told of a field and of those behind it: their values, or the refusal of the line that they begin in
 abbrev pub bothTold : Cursor → FieldsTold → FieldsTold → FieldsTold
-bothTold place first second =
-    cond (isGood first && isGood second)
-    (record { says = good (first .says .values ++ second .says .values); next = second .next })
+bothTold place first others =
+    cond (isGood first && isGood others)
+    (record { says = good (first .says .values ++ others .says .values); next = others .next })
     (refusedField place)
 
--- two numbers, the first ended by a tab and the second by the byte `end`
-unfoldable pub twoNumbersAt : List ℕ → Cursor → ℕ → FieldsTold
-twoNumbersAt text place end =
+-- a row of so many numbers: all but the last are ended by a tab, and the last by the line feed; no line has none
+unfoldable pub rowAt : ℕ → List ℕ → Cursor → FieldsTold
+rowAt zero text place = refusedField place
+rowAt (suc zero) text place = numberAt text place lineFeed
+rowAt (suc (suc more)) text place =
     let first = numberAt text place tab in
-    bothTold place first (numberAt text (first .next) end)
+    bothTold place first (rowAt (suc more) text (first .next))

@@ -1,38 +1,18 @@
 -- One line of a text, read by its letter and its numbers: what it holds, and where the reading stands behind it.
 use mathlib.Core.Path.{_≡_}
-use mathlib.Core.Bool.{Bool, true, false, cond}
-use mathlib.Core.List.{List, _++_}
+use mathlib.Core.Bool.{Bool, true, false}
+use mathlib.Core.List.{List}
 use mathlib.Core.Option.{Option, none, some}
-use Prim.Native.Nat.{ℕ, zero, suc, _≤_}
+use Prim.Native.Nat.{ℕ, _≤_}
 use lib.ListN.{length, drop}
-use Rattle.rules.specs.TableText.{Record, lineFeed, recordOf, tab}
+use Rattle.rules.specs.TableText.{Record, lineFeed}
 use Rattle.rules.specs.Refusals.{Item, bad, one}
 use Rattle.rules.specs.declared.Refusal.{Refusal}
-use Rattle.laws.specs.FirstLine.{firstItem, restOf}
-use Rattle.text.specs.Fields.{FieldsTold, isGood, lineBehind, twoNumbersAt}
+use Rattle.grammar.specs.FirstLine.{firstItem, restOf}
+use Rattle.text.specs.Fields.{lineBehind}
 use Rattle.text.specs.declared.Cursor.{Cursor}
 use Rattle.text.specs.declared.Line.{Line}
 use Rattle.text.specs.declared.Parsed.{Parsed}
-
--- numbers that were read in a row, and the reading place behind them
-pub record Row : Type 0 where
-  pub numbers : List ℕ
-  pub next : Cursor
-
--- what follows fields that were read: a row that they begin, or none
-abbrev pub afterFields : FieldsTold → (List ℕ → Cursor → Option Row) → Option Row
-afterFields told go = cond (isGood told) (go (told .says .values) (told .next)) none
-
-abbrev pub onto : List ℕ → Option Row → Option Row
-onto numbers none = none
-onto numbers (some row) = some (record { numbers = numbers ++ row .numbers; next = row .next })
-
--- the numbers from a place to the end of the line, in pairs: `more` pairs ended by a tab, and one by the line feed
-unfoldable pub pairsAt : ℕ → List ℕ → Cursor → Option Row
-pairsAt zero text place =
-    afterFields (twoNumbersAt text place lineFeed) (λ numbers next. some (record { numbers = numbers; next = next }))
-pairsAt (suc more) text place =
-    afterFields (twoNumbersAt text place tab) (λ numbers next. onto numbers (pairsAt more text next))
 
 -- "1: the line has none of the four shapes", with the number of the line; the reading place is where it was
 abbrev pub refusedLine : Cursor → Line
@@ -44,14 +24,10 @@ parsedOf (Record.F f) = Parsed.Speed f
 parsedOf (Record.J j) = Parsed.Job j
 parsedOf (Record.H h) = Parsed.Hold h
 
-abbrev pub lineOf : Cursor → Cursor → Option Record → Line
-lineOf place next none = refusedLine place
-lineOf place next (some r) = record { parsed = parsedOf r; next = next }
-
--- the line at a place, from its letter and its row of numbers
-unfoldable pub lineWith : Cursor → ℕ → Option Row → Line
-lineWith place letter none = refusedLine place
-lineWith place letter (some row) = lineOf place (row .next) (recordOf letter (row .numbers))
+-- what a line's letter and numbers make: its record, or where they make none the refusal
+abbrev pub parsedWith : ℕ → Option Record → Parsed
+parsedWith line none = Parsed.Refused Refusal.Shape line
+parsedWith line (some r) = parsedOf r
 
 -- What the rules call what was parsed.
 unfoldable pub itemOf : Parsed → Item

@@ -1,13 +1,15 @@
-// Reads a table text by a cursor: a field, and one line with its record. Nothing is split or copied: the text is lent to
-// each call, and the reading place goes by value.
+// Reads a table text by a cursor: a field, a row of fields, and one line with its record. Nothing is split or copied: the
+// text is lent to each call, and the reading place goes by value.
 ghost use mathlib.Core.Path.{_≡_};
 ghost use Prim.Native.Nat.{_+_, _≤_};
-ghost use Rattle.rules.specs.TableText.{isLetter, letterJ, mostDigits};
-ghost use Rattle.text.specs.Fields.{DigitsRead, front, letterAt, lineBehind, numberAt, pairSays, refusedField, shaped, takenSays, twoNumbersAt};
-ghost use Rattle.text.specs.Lines.{LineRead, lineWith, pairsAt, refusedLine};
+ghost use lib.ListN.{length};
+ghost use Rattle.rules.specs.TableText.{fieldCount, isLetter, letterRecord, mostDigits, mostFields};
+ghost use Rattle.text.specs.Fields.{DigitsRead, front, letterAt, lineBehind, numberAt, refusedField, rowAt, rowSays, shaped, takenSays};
+ghost use Rattle.text.specs.Lines.{LineRead, parsedWith, refusedLine};
 use rules::Field;
 use rules::Hold;
 use rules::Job;
+use rules::MOST_FIELDS;
 use rules::Refusal;
 use rules::Speed;
 
@@ -33,20 +35,20 @@ pub struct Cursor {
 }
 
 // A field's answer, and the reading place behind it; where the field is refused the reading place is where it was.
-pub struct Taken {
+pub struct FieldTaken {
     pub field: Field,
     pub next: Cursor,
 }
 
 // Digits in a row: how many, and the number that they stand for.
-struct Run {
+struct DigitRun {
     count: usize,
     value: u64,
 }
 
-// Two numbers and the reading place behind them, or the refusal of their line.
-enum Pair {
-    Both(u64, u64, Cursor),
+// The reading place behind a row of numbers, or the refusal of its line.
+enum RowTaken {
+    Behind(Cursor),
     Refused(Refusal, u64),
 }
 
@@ -77,7 +79,7 @@ fn reach(bytes: usize) -> usize
 }
 
 // The digits at the front of a text, each read once: how many, and the number that they stand for.
-fn digits(text: &[u8]) -> Run
+fn digits(text: &[u8]) -> DigitRun
     ensures { λ r. ⌜ DigitsRead (front (now (text .entry))) r ⌝ }
 {
     let end = reach(text.len());
@@ -86,15 +88,15 @@ fn digits(text: &[u8]) -> Run
     while count < end {
         let byte = text[count];
         if byte < b'0' {
-            return Run { count, value };
+            return DigitRun { count, value };
         }
         if b'9' < byte {
-            return Run { count, value };
+            return DigitRun { count, value };
         }
         value = value * 10 + ((byte - b'0') as u64);
         count += 1;
     }
-    Run { count, value }
+    DigitRun { count, value }
 }
 
 // Digits are a number, by their count and the first: one or more, at most 16, and no leading zero.
@@ -113,23 +115,24 @@ fn number_shaped(count: usize, first: u8) -> bool
     true
 }
 
-// The letters of the four records, and no other byte.
+// The letter table: how many numbers stand behind each letter, and 0 for any other byte.
+pub fn field_count(letter: u64) -> usize
+    ensures { λ r. ⌜ (r ≡ fieldCount letter) × (r ≤ mostFields) ⌝ }
+{
+    match letter {
+        LETTER_T => 2,
+        LETTER_F => 2,
+        LETTER_J => 6,
+        LETTER_H => 2,
+        _ => 0,
+    }
+}
+
+// A byte that numbers stand behind.
 fn is_letter(byte: u8) -> bool
     ensures { λ r. ⌜ r ≡ isLetter byte ⌝ }
 {
-    if byte == b'T' {
-        return true;
-    }
-    if byte == b'F' {
-        return true;
-    }
-    if byte == b'J' {
-        return true;
-    }
-    if byte == b'H' {
-        return true;
-    }
-    false
+    field_count(byte as u64) != 0
 }
 
 // The line behind the byte that ends a field: behind a line feed the next one begins.
@@ -147,17 +150,17 @@ fn line_behind(end: u8, line: u64) -> u64
 
 impl Cursor {
     // The refusal of a field that has not the shape of one.
-    fn refused_field(self) -> Taken
+    fn refused_field(self) -> FieldTaken
         ensures { λ r. ⌜ takenSays r ≡ refusedField self ⌝ }
     {
-        Taken {
+        FieldTaken {
             field: Field::Refused(Refusal::Shape, self.line),
             next: self,
         }
     }
 
     // The number that stands here and is ended by the byte `end`.
-    pub fn number(self, text: &[u8], end: u8) -> Taken
+    pub fn number(self, text: &[u8], end: u8) -> FieldTaken
         ensures { λ r. ⌜ takenSays r ≡ numberAt (now (text .entry)) self end ⌝ }
     {
         let at = self.at;
@@ -177,7 +180,7 @@ impl Cursor {
             return self.refused_field();
         }
         let line = line_behind(end, self.line);
-        Taken {
+        FieldTaken {
             field: Field::Number(run.value),
             next: Cursor {
                 at: behind + 1,
@@ -187,7 +190,7 @@ impl Cursor {
     }
 
     // The letter of a record that stands here alone before a tab.
-    pub fn letter(self, text: &[u8]) -> Taken
+    pub fn letter(self, text: &[u8]) -> FieldTaken
         ensures { λ r. ⌜ takenSays r ≡ letterAt (now (text .entry)) self ⌝ }
     {
         let at = self.at;
@@ -205,7 +208,7 @@ impl Cursor {
         if !is_letter(byte) {
             return self.refused_field();
         }
-        Taken {
+        FieldTaken {
             field: Field::Number(byte as u64),
             next: Cursor {
                 at: behind + 1,
@@ -214,23 +217,38 @@ impl Cursor {
         }
     }
 
-    // Two numbers, the first ended by a tab and the second by the byte `end`.
-    fn two_numbers(self, text: &[u8], end: u8) -> Pair
-        ensures { λ r. ⌜ pairSays self r ≡ twoNumbersAt (now (text .entry)) self end ⌝ }
+    // The numbers from here to the end of the line, as many as there are places for: all but the last are ended by a tab, and
+    // the last by the line feed. No line has none.
+    fn row(self, text: &[u8], numbers: &mut [u64]) -> RowTaken
+        ensures { λ r. ⌜
+            rowSays self (now (numbers .exit)) r ≡ rowAt (length (now (numbers .entry))) (now (text .entry)) self
+            ⌝ }
     {
-        let first_taken = self.number(text, b'\t');
-        let first_field = first_taken.field;
-        let Field::Number(first) = first_field else {
-            return Pair::Refused(Refusal::Shape, self.line);
+        let count = numbers.len();
+        if count == 0 {
+            return RowTaken::Refused(Refusal::Shape, self.line);
+        }
+        let last = count - 1;
+        let mut place = self;
+        let mut filled = 0;
+        while filled < last {
+            let taken = place.number(text, b'\t');
+            let field = taken.field;
+            let Field::Number(number) = field else {
+                return RowTaken::Refused(Refusal::Shape, self.line);
+            };
+            numbers[filled] = number;
+            place = taken.next;
+            filled += 1;
+        }
+        let last_taken = place.number(text, b'\n');
+        let last_field = last_taken.field;
+        let Field::Number(last_number) = last_field else {
+            return RowTaken::Refused(Refusal::Shape, self.line);
         };
-        let middle = first_taken.next;
-        let second_taken = middle.number(text, end);
-        let second_field = second_taken.field;
-        let Field::Number(second) = second_field else {
-            return Pair::Refused(Refusal::Shape, self.line);
-        };
-        let next = second_taken.next;
-        Pair::Both(first, second, next)
+        numbers[last] = last_number;
+        let next = last_taken.next;
+        RowTaken::Behind(next)
     }
 
     // The refusal of a line that has none of the four shapes.
@@ -244,64 +262,29 @@ impl Cursor {
     }
 }
 
-// The line at `place` whose letter is no J, and whose numbers stand from `from` on.
-fn line_of_two(text: &[u8], place: Cursor, from: Cursor, letter: u64) -> Line
-    ensures { λ r. ⌜ r ≡ lineWith place letter (pairsAt 0 (now (text .entry)) from) ⌝ }
+// What a letter makes of its numbers; any other byte makes the refusal of the line.
+fn parsed_of(letter: u64, numbers: &[u64; MOST_FIELDS], line: u64) -> Parsed
+    ensures { λ r. ⌜ r ≡ parsedWith line (letterRecord letter (now (numbers .entry))) ⌝ }
 {
-    let Pair::Both(first, second, next) = from.two_numbers(text, b'\n') else {
-        return place.refused_line();
-    };
-    if letter == LETTER_T {
-        return Line {
-            parsed: Parsed::Clock(first, second),
-            next: next,
-        };
-    }
-    if letter == LETTER_F {
-        return Line {
-            parsed: Parsed::Speed(Speed {
-                mhz: first,
-                cost: second,
-            }),
-            next: next,
-        };
-    }
-    if letter == LETTER_H {
-        return Line {
-            parsed: Parsed::Hold(Hold {
-                resource: first,
-                holder: second,
-            }),
-            next: next,
-        };
-    }
-    place.refused_line()
-}
-
-// The line at `place` whose letter is J, and whose numbers stand from `from` on.
-fn line_of_six(text: &[u8], place: Cursor, from: Cursor) -> Line
-    ensures { λ r. ⌜ r ≡ lineWith place letterJ (pairsAt 2 (now (text .entry)) from) ⌝ }
-{
-    let Pair::Both(number, cycles, second) = from.two_numbers(text, b'\t') else {
-        return place.refused_line();
-    };
-    let Pair::Both(worth, critical, third) = second.two_numbers(text, b'\t') else {
-        return place.refused_line();
-    };
-    let Pair::Both(termination, request, next) = third.two_numbers(text, b'\n') else {
-        return place.refused_line();
-    };
-    let job = Job {
-        number: number,
-        cycles: cycles,
-        worth: worth,
-        critical: critical,
-        termination: termination,
-        request: request,
-    };
-    Line {
-        parsed: Parsed::Job(job),
-        next: next,
+    match letter {
+        LETTER_T => Parsed::Clock(numbers[0], numbers[1]),
+        LETTER_F => Parsed::Speed(Speed {
+            mhz: numbers[0],
+            cost: numbers[1],
+        }),
+        LETTER_J => Parsed::Job(Job {
+            number: numbers[0],
+            cycles: numbers[1],
+            worth: numbers[2],
+            critical: numbers[3],
+            termination: numbers[4],
+            request: numbers[5],
+        }),
+        LETTER_H => Parsed::Hold(Hold {
+            resource: numbers[0],
+            holder: numbers[1],
+        }),
+        _ => Parsed::Refused(Refusal::Shape, line),
     }
 }
 
@@ -315,8 +298,13 @@ pub fn record_at(text: &[u8], place: Cursor) -> Line
         return place.refused_line();
     };
     let from = taken.next;
-    if letter == LETTER_J {
-        return line_of_six(text, place, from);
+    let count = field_count(letter);
+    let mut numbers: [u64; MOST_FIELDS] = [0; MOST_FIELDS];
+    let RowTaken::Behind(next) = from.row(text, &mut numbers[..count]) else {
+        return place.refused_line();
+    };
+    Line {
+        parsed: parsed_of(letter, &numbers, place.line),
+        next: next,
     }
-    line_of_two(text, place, from, letter)
 }

@@ -5,13 +5,13 @@ use mathlib.Core.List.{List}
 use mathlib.Core.Path.{_≡_, _∙_}
 use Prim.Native.Nat.{ℕ, _*_}
 use lib.Dec.{ltb}
-use Rattle.columns.specs.Columns.{Column, TermsOf, jobsAt}
+use Rattle.columns.specs.Columns.{RunsOf, TermsOf, jobsAt}
 use Rattle.columns.specs.declared.Terms.{Terms}
 use Rattle.entries.specs.Promises.{Summed, Timed}
-use Rattle.rules.specs.Plan.{Entry, cyclesOf, endsLate, fateBudget, fatePlanned, fateTime, inTime, jobsOf, tooDear, topOf}
+use Rattle.rules.specs.Plan.{Entry, cyclesOf, endsLate, fateBudget, fatePlanned, fateTime, inTime, tooDear, topOf, runOrder}
 use Rattle.rules.specs.TableText.{Records}
 use Rattle.rules.specs.declared.Job.{Job}
-use Rattle.trials.specs.Promises.{Judged}
+use Rattle.trials.specs.Promises.{FateJudged}
 
 -- the fate, by the tests in their order
 abbrev pub fateBy : Bool → Bool → ℕ
@@ -30,28 +30,26 @@ dear-by : (budget cost : ℕ) (js : List Job) (budget' cost' : ℕ) (js' : List 
 dear-by budget cost js budget' cost' js' sum b c e h = rw (h, b, c, e)
 
 module _ (places cycles termination : List ℕ) (terms : Terms) where
-  module _ (t : Records) (of : TermsOf t terms) (cycles-of : Column (λ j. j .cycles) (t .jobs) cycles) (q : List Entry)
-      (jobs : jobsOf q ≡ jobsAt (t .jobs) places) where
-    late-told : Column (λ j. j .termination) (t .jobs) termination → (in-time : Bool)
-        → Timed places cycles termination (terms .clock) (terms .mhz) in-time → endsLate t q ≡ not in-time
+  module _ (t : Records) (of : TermsOf t terms) (runs : RunsOf (t .jobs) cycles termination) (q : List Entry)
+      (jobs : runOrder t q ≡ jobsAt (t .jobs) places) where
+    late-told : (in-time : Bool) → Timed places cycles termination (terms .clock) (terms .mhz) in-time
+        → endsLate t q ≡ not in-time
     unfolding endsLate
-    late-told termination-of in-time timed =
-        late-by (t .clock) (topOf t .mhz) (jobsOf q) _ _ _ in-time (of .clock) (of .mhz) jobs
-        (timed .in-time (t .jobs) cycles-of termination-of)
+    late-told in-time timed =
+        late-by (t .clock) (topOf t .mhz) (runOrder t q) _ _ _ in-time (of .clock) (of .mhz) jobs
+        (timed .in-time (t .jobs) runs)
 
     dear-told : (sum : ℕ) → Summed places cycles sum → tooDear t q ≡ ltb (terms .budget) (sum * terms .cost)
     unfolding tooDear
     dear-told sum summed =
-        dear-by (t .budget) (topOf t .cost) (jobsOf q) _ _ _ sum (of .budget) (of .cost) jobs
-        (summed .total (t .jobs) cycles-of)
+        dear-by (t .budget) (topOf t .cost) (runOrder t q) _ _ _ sum (of .budget) (of .cost) jobs
+        (summed .total (t .jobs) (runs .cycles-of))
 
   pub judged-by-tests : (in-time : Bool) → Timed places cycles termination (terms .clock) (terms .mhz) in-time
       → (sum : ℕ) → Summed places cycles sum
       → (r : ℕ) → r ≡ fateBy (not in-time) (ltb (terms .budget) (sum * terms .cost))
-      → Judged places cycles termination terms r
+      → FateJudged places cycles termination terms r
   judged-by-tests in-time timed sum summed r e = record {
-    fate = λ t of cycles-of termination-of q jobs.
-        e
-        ∙ fate-as _ _ _ _ (late-told t of cycles-of q jobs termination-of in-time timed)
-        (dear-told t of cycles-of q jobs sum summed);
+    fate = λ t of runs q jobs.
+        e ∙ fate-as _ _ _ _ (late-told t of runs q jobs in-time timed) (dear-told t of runs q jobs sum summed);
   }

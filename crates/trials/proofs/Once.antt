@@ -1,6 +1,6 @@
 -- A plan of places in the order of their keys, none twice, with one put in that it does not have, or with one taken
--- out, has none twice either, stands in that order, and has its keys tell which are in it. Places below 64, none twice,
--- are at most 64, so that there is room for one more that the plan does not have. Assumes nothing.
+-- out, has none twice either, stands in that order, and has its keys tell which are in it. Places below `mostJobs`, none twice,
+-- are at most so many, so that there is room for one more that the plan does not have. Assumes nothing.
 use mathlib.Core.Bool.{true, false, _||_}
 use mathlib.Core.List.{List, [], _∷_}
 use mathlib.Core.Path.{_≡_, refl, sym, ap, _∙_}
@@ -25,7 +25,12 @@ use Rattle.rules.specs.Lists.{Each, none-left, _and_}
 use Rattle.rules.specs.Plan.{insert}
 use Rattle.rules.specs.TableText.{mostJobs, noJob}
 use Rattle.rules.specs.declared.Job.{Job}
-use Rattle.trials.specs.Promises.{Sorted, Standing, notPlanned, planIn}
+use Rattle.trials.specs.Promises.{PlanParts, Sorted, PlanStanding, planParts, notPlanned, planIn, plannedPlaces}
+use Rattle.trials.specs.declared.Totals.{Totals}
+
+-- the totals with one entry more
+abbrev pub oneMore : Totals → Totals
+oneMore totals = record { count = totals .count + 1 }
 
 -- one put in
 among-with : (at n : ℕ) (ns : List ℕ) (m : ℕ) → among (withAt at n ns) m ≡ eqb m n || among ns m
@@ -97,7 +102,7 @@ each-place (p ∷ ps) below =
     among-places 0 mostJobs p (omega arith) (omega (arith, below 0 (omega arith)))
     and each-place ps (λ i l. below (suc i) (omega arith))
 
--- places below 64, none twice, are at most 64
+-- places below `mostJobs`, none twice, are at most so many
 at-most-all : (ps : List ℕ) → AllBelow mostJobs ps → Distinct ps → length ps ≤ mostJobs
 at-most-all ps below once =
     omega (arith, no-longer (placesFrom 0 mostJobs) once (each-place ps below), length-places 0 mostJobs)
@@ -172,9 +177,9 @@ module _ (place : ℕ) (ps keys : List ℕ) (apart : Apart place ps keys) where
       (λ g. rw (g, kept keys place key key-there p (eqb-swap place p ∙ g)) (apart .others p h g)))
 
   -- put in at a key: a plan, whose entries are those with one inserted
-  module _ (count key : ℕ) (places' keys' : List ℕ) (front : take count places' ≡ withAt (placeFor key keys ps) place ps)
-      (key-stored : keys' ≡ set keys place key) where
-    pub put-in-stands : length places' ≡ mostJobs → count ≤ mostJobs → key < notPlanned → Standing count places' keys'
+  module _ (key : ℕ) (p : PlanParts) (front : plannedPlaces p ≡ withAt (placeFor key keys ps) place ps)
+      (key-stored : p .keys ≡ set keys place key) where
+    pub put-in-stands : length (p .places) ≡ mostJobs → p .totals .count ≤ mostJobs → key < notPlanned → PlanStanding p
     put-in-stands whole few l =
         let at = placeFor key keys ps in
         record {
@@ -184,32 +189,37 @@ module _ (place : ℕ) (ps keys : List ℕ) (apart : Apart place ps keys) where
           below = rw front (below-with mostJobs at place ps (apart .below) (apart .place-below));
           once = rw front (with-once at place none-of (apart .once));
           sorted = rw (front, key-stored) (sorted-with keys place key key-there none-of (apart .sorted));
-          keys-tell = λ p h. rw (front, key-stored) (keys-tell-with at key p l h);
+          keys-tell = λ q h. rw (front, key-stored) (keys-tell-with at key q l h);
         }
 
-    pub put-in-inserts : (js : List Job) → planIn js count places' keys'
-        ≡ insert (getD js place noJob) key (entriesIn js keys ps)
+    pub put-in-inserts : (js : List Job) → planIn js p ≡ insert (getD js place noJob) key (entriesIn js keys ps)
     put-in-inserts js = rw (front, key-stored) (entries-with js keys place key key-there ps (apart .new))
 
-    pub put-in-below : (n : ℕ) → AllBelow n ps → place < n → AllBelow n (take count places')
+    pub put-in-below : (n : ℕ) → AllBelow n ps → place < n → AllBelow n (plannedPlaces p)
     put-in-below n below h = rw front (below-with n (placeFor key keys ps) place ps below h)
 
-module _ (count : ℕ) (places keys : List ℕ) (standing : Standing count places keys) where
-  abbrev planned : List ℕ
-  planned = take count places
+module _ (p : PlanParts) (standing : PlanStanding p) where
+  abbrev count : ℕ
+  count = p .totals .count
 
-  pub length-planned : length planned ≡ count
+  abbrev places : List ℕ
+  places = p .places
+
+  abbrev keys : List ℕ
+  keys = p .keys
+
+  pub length-planned : length (plannedPlaces p) ≡ count
   length-planned = length-take-le count places (omega (arith, standing .few, standing .places-length))
 
   module _ (place : ℕ) (h : place < mostJobs) where
-    pub not-among : notPlanned ≤ getD keys place 0 → among planned place ≡ false
+    pub not-among : notPlanned ≤ getD keys place 0 → among (plannedPlaces p) place ≡ false
     not-among l = sym (standing .keys-tell place h) ∙ le-ltb (getD keys place 0) notPlanned l
 
-    pub planned-among : getD keys place 0 < notPlanned → among planned place ≡ true
+    pub planned-among : getD keys place 0 < notPlanned → among (plannedPlaces p) place ≡ true
     planned-among l = sym (standing .keys-tell place h) ∙ lt-ltb (getD keys place 0) notPlanned l
 
     -- a place that the keys call not planned
-    pub apart-new : notPlanned ≤ getD keys place 0 → Apart place planned keys
+    pub apart-new : notPlanned ≤ getD keys place 0 → Apart place (plannedPlaces p) keys
     apart-new l = record {
       keys-length = standing .keys-length;
       below = standing .below;
@@ -217,44 +227,45 @@ module _ (count : ℕ) (places keys : List ℕ) (standing : Standing count place
       sorted = standing .sorted;
       place-below = h;
       new = not-among l;
-      others = λ p m d. standing .keys-tell p m;
+      others = λ q m d. standing .keys-tell q m;
     }
 
     -- the first index that holds a planned place is inside
-    pub inside : getD keys place 0 < notPlanned → indexOf place planned < count
+    pub inside : getD keys place 0 < notPlanned → indexOf place (plannedPlaces p) < count
     inside l =
         omega (
           arith,
-          ltb-true (indexOf place planned) (length planned)
-              (sym (some-where-first-inside (eqb place) planned) ∙ planned-among l),
+          ltb-true (indexOf place (plannedPlaces p)) (length (plannedPlaces p))
+              (sym (some-where-first-inside (eqb place) (plannedPlaces p)) ∙ planned-among l),
           length-planned,
         )
 
     -- a place that is taken out
-    pub apart-taken-out : Apart place (withoutAt (indexOf place planned) planned) keys
+    pub apart-taken-out : Apart place (withoutAt (indexOf place (plannedPlaces p)) (plannedPlaces p)) keys
     apart-taken-out = record {
       keys-length = standing .keys-length;
-      below = below-without mostJobs (indexOf place planned) planned (standing .below);
-      once = pairs-without (indexOf place planned) (standing .once);
-      sorted = pairs-without (indexOf place planned) (standing .sorted);
+      below = below-without mostJobs (indexOf place (plannedPlaces p)) (plannedPlaces p) (standing .below);
+      once = pairs-without (indexOf place (plannedPlaces p)) (standing .once);
+      sorted = pairs-without (indexOf place (plannedPlaces p)) (standing .sorted);
       place-below = h;
       new = taken-out-is-gone place (standing .once);
-      others = λ p m d. standing .keys-tell p m ∙ sym (others-stay place planned p d);
+      others = λ q m d. standing .keys-tell q m ∙ sym (others-stay place (plannedPlaces p) q d);
     }
 
     -- an insertion behind all entries: what it asks, and that it leaves a plan
     module _ (new : notPlanned ≤ getD keys place 0) where
       room : count < mostJobs
-      room = omega (arith, room-for-one-more place planned keys (apart-new new), length-planned)
+      room = omega (arith, room-for-one-more place (plannedPlaces p) keys (apart-new new), length-planned)
 
-      pub room-behind : (count < length places) × AllBelow mostJobs planned × (place < mostJobs)
+      pub room-behind : (count < length places) × AllBelow mostJobs (plannedPlaces p) × (place < mostJobs)
       room-behind = (omega (arith, room, standing .places-length), standing .below, h)
 
       pub inserted-stands : (key : ℕ) (places' keys' : List ℕ) → key < notPlanned
-          → Inserted count place key places keys places' keys' → Standing (count + 1) places' keys'
+          → Inserted count place key places keys places' keys' → PlanStanding (planParts (oneMore (p .totals)) places' keys')
       inserted-stands key places' keys' l inserted =
-          put-in-stands place planned keys (apart-new new) (count + 1) key places' keys' (inserted .fronted .front)
-          (inserted .key-stored) (inserted .fronted .whole ∙ standing .places-length) (omega (arith, room)) l
+          put-in-stands place (plannedPlaces p) keys (apart-new new) key (planParts (oneMore (p .totals)) places' keys')
+          (inserted .fronted .front) (inserted .key-stored) (inserted .fronted .whole ∙ standing .places-length)
+          (omega (arith, room)) l
 
   -- an insertion over one of the entries: what it asks
   pub room-inside : (n place : ℕ) → n < count → place < mostJobs

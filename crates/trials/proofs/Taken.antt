@@ -18,8 +18,10 @@ use Rattle.rules.specs.Plan.{judge, ratioZero, tooDear, trial, turn, turnOf, wa
 use Rattle.rules.specs.TableText.{Records, mostJobs, noJob}
 use Rattle.rules.specs.declared.Job.{Job}
 use Rattle.trials.proofs.Judged.{fateBy}
-use Rattle.trials.specs.Promises.{Judged, Standing, Tried, TurnOf, TurnTaken, notPlanned, planIn}
-use Rattle.trials.specs.declared.Turned.{Turned}
+use Rattle.trials.specs.Promises.{PlanParts, FateJudged, PlanStanding, Tried, TurnColumns, TurnOf, TurnTaken, planParts, notPlanned}
+use Rattle.trials.specs.Promises.{planIn, plannedPlaces}
+use Rattle.trials.specs.declared.JobInTurn.{JobInTurn}
+use Rattle.steps.proofs.RunOrder.{run-order}
 
 -- what a trial leaves, by the tests
 abbrev outcomeBy : Bool → Bool → List Entry → List Entry → Outcome
@@ -39,20 +41,20 @@ accepted-by true dear fate p q e f = absurd (omega arith)
 accepted-by false true fate p q e f = absurd (omega arith)
 accepted-by false false fate p q e f = refl
 
--- the first of a list, put over those of a spare one, and back over those of a third
-module _ (n : ℕ) (xs spare ys : List ℕ) where
+-- the first of a list, put over those of another, and back over those of a third
+module _ (n : ℕ) (xs room ys : List ℕ) where
   abbrev putBack : List ℕ
-  putBack = overwritten (overwritten xs spare n) ys n
+  putBack = overwritten (overwritten xs room n) ys n
 
   put-back-front : n ≤ length xs → take n putBack ≡ take n xs
   put-back-front h =
       let long = length-take-le n xs h in
-      rw (take-at (take n xs) (drop n spare) n long) (take-at (take n xs) (drop n ys) n long)
+      rw (take-at (take n xs) (drop n room) n long) (take-at (take n xs) (drop n ys) n long)
 
   put-back-whole : n ≤ length xs → n ≤ length ys → length putBack ≡ length ys
   put-back-whole h l =
       let long = length-take-le n xs h in
-      rw (take-at (take n xs) (drop n spare) n long) (simp (length-append, length-drop) (omega arith))
+      rw (take-at (take n xs) (drop n room) n long) (simp (length-append, length-drop) (omega arith))
 
 -- the rules, by what they test
 module _ (t : Records) (i : Turn) (p : List Entry) where
@@ -79,37 +81,39 @@ module _ (t : Records) (i : Turn) (p : List Entry) where
         unfolding judge
         accepted f = accepted-by (endsLate t q) (tooDear t q) fate p q told f ∙ judged
 
-module _ (count place over : ℕ) (waits critical cycles termination places keys : List ℕ) (terms : Terms)
-    (standing : Standing count places keys) (place-below : place < mostJobs) where
+module _ (p : PlanParts) (job : JobInTurn) (c : TurnColumns) (terms : Terms) (standing : PlanStanding p)
+    (place-below : job .place < mostJobs) where
   -- the table is the columns'
   abbrev Table : Records → Type 0
-  Table t = TurnOf t count place over waits critical cycles termination places terms
+  Table t = TurnOf t p job c terms
 
   abbrev jobIn : Records → Job
-  jobIn t = getD (t .jobs) place noJob
+  jobIn t = getD (t .jobs) (job .place) noJob
 
-  abbrev planned : Records → List Entry
-  planned t = planIn (t .jobs) count places keys
+  abbrev before : Records → List Entry
+  before t = planIn (t .jobs) p
 
-  abbrev Taken : List ℕ → List ℕ → Turned → Type 0
-  Taken places' keys' r =
-      TurnTaken count place over waits critical cycles termination places keys places' keys' terms r
+  abbrev key : ℕ
+  key = getD (p .keys) (job .place) 0
 
   -- the job's key tells whether it is planned
-  in-plan-told : (t : Records) → Table t
-      → inPlan (turnOf t (jobIn t) .job) (planned t) ≡ ltb (getD keys place 0) notPlanned
+  in-plan-told : (t : Records) → Table t → inPlan (turnOf t (jobIn t) .job) (before t) ≡ ltb key notPlanned
   unfolding turnOf
   in-plan-told t of =
-      in-plan-among (t .jobs) (of .valid .jobs-rise) keys place (of .place-of-job) (take count places) (of .of-jobs)
-      ∙ sym (standing .keys-tell place place-below)
+      in-plan-among (t .jobs) (of .valid .jobs-rise) (p .keys) (job .place) (of .place-of-job) (plannedPlaces p) (of .of-jobs)
+      ∙ sym (standing .keys-tell (job .place) place-below)
 
-  over-told : (t : Records) → Table t → turnOf t (jobIn t) .ratio .over ≡ over
+  over-told : (t : Records) → Table t → turnOf t (jobIn t) .ratio .over ≡ job .over
   unfolding turnOf
   over-told t of = sym (of .over-of)
 
   -- the plan stays, with this fate for the job
-  module _ (places' : List ℕ) (whole : length places' ≡ mostJobs) (front : take count places' ≡ take count places) where
-    plan-stands : Standing count places' keys
+  module _ (places' : List ℕ) (whole : length places' ≡ mostJobs)
+      (front : take (p .totals .count) places' ≡ plannedPlaces p) where
+    abbrev same : PlanParts
+    same = planParts (p .totals) places' (p .keys)
+
+    plan-stands : PlanStanding same
     plan-stands = record {
       places-length = whole;
       keys-length = standing .keys-length;
@@ -117,72 +121,69 @@ module _ (count place over : ℕ) (waits critical cycles termination places keys
       below = rw front (standing .below);
       once = rw front (standing .once);
       sorted = rw front (standing .sorted);
-      keys-tell = λ p h. rw front (standing .keys-tell p h);
+      keys-tell = λ q h. rw front (standing .keys-tell q h);
     }
 
     stays : (fate : ℕ)
-        → ((t : Records) → Table t → record { plan = planned t; fate = fate } ≡ turn t (turnOf t (jobIn t)) (planned t))
-        → Taken places' keys (record { count = count; fate = fate })
+        → ((t : Records) → Table t → record { plan = before t; fate = fate } ≡ turn t (turnOf t (jobIn t)) (before t))
+        → TurnTaken p job c terms same fate
     stays fate outcome = record {
       standing = plan-stands;
       outcome = λ t of. rw front (outcome t of);
       of-jobs = λ t of. rw front (of .of-jobs);
     }
 
-  pub job-passed-over : getD keys place 0 < notPlanned → Taken places keys (record { count = count; fate = fatePlanned })
+  pub job-passed-over : key < notPlanned → TurnTaken p job c terms p fatePlanned
   job-passed-over l =
-      stays places (standing .places-length) refl fatePlanned (λ t of.
-      passed-over t (turnOf t (jobIn t)) (planned t) (in-plan-told t of ∙ lt-ltb (getD keys place 0) notPlanned l))
+      stays (p .places) (standing .places-length) refl fatePlanned (λ t of.
+      passed-over t (turnOf t (jobIn t)) (before t) (in-plan-told t of ∙ lt-ltb key notPlanned l))
 
-  module _ (new : notPlanned ≤ getD keys place 0) where
-    new-told : (t : Records) → Table t → inPlan (turnOf t (jobIn t) .job) (planned t) ≡ false
-    new-told t of = in-plan-told t of ∙ le-ltb (getD keys place 0) notPlanned new
+  module _ (new : notPlanned ≤ key) where
+    new-told : (t : Records) → Table t → inPlan (turnOf t (jobIn t) .job) (before t) ≡ false
+    new-told t of = in-plan-told t of ∙ le-ltb key notPlanned new
 
-    pub ratio-is-zero : over ≡ 0 → Taken places keys (record { count = count; fate = fateRatioZero })
+    pub ratio-is-zero : job .over ≡ 0 → TurnTaken p job c terms p fateRatioZero
     ratio-is-zero z =
-        stays places (standing .places-length) refl fateRatioZero (λ t of.
-        gives-nothing t (turnOf t (jobIn t)) (planned t) (new-told t of) (over-told t of ∙ z))
+        stays (p .places) (standing .places-length) refl fateRatioZero (λ t of.
+        gives-nothing t (turnOf t (jobIn t)) (before t) (new-told t of) (over-told t of ∙ z))
 
-    module _ (some : over ≡ 0 → ⊥) (places' keys' : List ℕ) (entries : ℕ)
-        (tried : Tried count place waits critical places keys places' keys' entries) where
-      abbrev triedPlan : Records → List Entry
-      triedPlan t = planIn (t .jobs) entries places' keys'
-
-      trial-told : (t : Records) → Table t → triedPlan t ≡ trial (turnOf t (jobIn t)) (planned t)
+    module _ (some : job .over ≡ 0 → ⊥) (q : PlanParts) (tried : Tried p (job .place) (c .waits) (c .critical) q) where
+      trial-told : (t : Records) → Table t → planIn (t .jobs) q ≡ trial (turnOf t (jobIn t)) (before t)
       unfolding trial turnOf
       trial-told t of =
-          tried .plan (t .jobs) (waitsLeft t) (of .valid .jobs-rise) (of .waits-left) (of .critical-of) (of .of-jobs)
-          (of .place-of-job)
+          tried .plan (t .jobs) (waitsLeft t) (of .valid .jobs-rise) (of .columns-of .waits-left)
+          (of .columns-of .critical-of) (of .of-jobs) (of .place-of-job)
 
       gives-told : (t : Records) → Table t → turnOf t (jobIn t) .ratio .over ≡ 0 → ⊥
       gives-told t of z = some (sym (over-told t of) ∙ z)
 
-      module _ (fate : ℕ) (judged-so : Judged (take entries places') cycles termination terms fate) where
-        fate-told : (t : Records) → Table t → fate ≡ fateBy (endsLate t (triedPlan t)) (tooDear t (triedPlan t))
+      module _ (fate : ℕ) (judged-so : FateJudged (plannedPlaces q) (c .cycles) (c .termination) terms fate) where
+        fate-told : (t : Records) → Table t
+            → fate ≡ fateBy (endsLate t (planIn (t .jobs) q)) (tooDear t (planIn (t .jobs) q))
         fate-told t of =
-            judged-so .fate t (of .terms-of) (of .cycles-of) (of .termination-of) (triedPlan t)
-            (jobs-of-entries (t .jobs) keys' (take entries places'))
+            judged-so .fate t (of .terms-of) (of .columns-of .runs-of) (planIn (t .jobs) q)
+            (run-order t (planIn (t .jobs) q) ∙ jobs-of-entries (t .jobs) (q .keys) (plannedPlaces q))
 
-        -- a dropped trial's places are overwritten with those that `spare` kept
-        pub trial-is-dropped : (spare spare' places'' : List ℕ) → spare' ≡ overwritten places spare count
-            → places'' ≡ overwritten spare' places' count → (fate ≡ fatePlanned → ⊥)
-            → Taken places'' keys (record { count = count; fate = fate })
-        trial-is-dropped spare spare' places'' kept back n =
-            let long : count ≤ length places = omega (arith, standing .few, standing .places-length) in
+        -- a dropped trial's places are overwritten with those that were kept
+        pub trial-is-dropped : (room kept places'' : List ℕ) → kept ≡ overwritten (p .places) room (p .totals .count)
+            → places'' ≡ overwritten kept (q .places) (p .totals .count) → (fate ≡ fatePlanned → ⊥)
+            → TurnTaken p job c terms (planParts (p .totals) places'' (p .keys)) fate
+        trial-is-dropped room kept places'' were back n =
+            let count = p .totals .count in
+            let long : count ≤ length (p .places) = omega (arith, standing .few, standing .places-length) in
             let whole = tried .standing .places-length in
-            let room : count ≤ length places' = omega (arith, standing .few, whole) in
-            stays places'' (rw (back, kept) (put-back-whole count places spare places' long room ∙ whole))
-            (rw (back, kept) (put-back-front count places spare places' long)) fate (λ t of.
-            dropped t (turnOf t (jobIn t)) (planned t) (new-told t of) (gives-told t of) (triedPlan t)
+            let short : count ≤ length (q .places) = omega (arith, standing .few, whole) in
+            stays places'' (rw (back, were) (put-back-whole count (p .places) room (q .places) long short ∙ whole))
+            (rw (back, were) (put-back-front count (p .places) room (q .places) long)) fate (λ t of.
+            dropped t (turnOf t (jobIn t)) (before t) (new-told t of) (gives-told t of) (planIn (t .jobs) q)
             (trial-told t of) fate (fate-told t of) n)
 
-        pub trial-is-accepted : fate ≡ fatePlanned
-            → Taken places' keys' (record { count = entries; fate = fatePlanned })
+        pub trial-is-accepted : fate ≡ fatePlanned → TurnTaken p job c terms q fatePlanned
         trial-is-accepted f = record {
           standing = tried .standing;
           outcome = λ t of.
-              accepted t (turnOf t (jobIn t)) (planned t) (new-told t of) (gives-told t of) (triedPlan t)
+              accepted t (turnOf t (jobIn t)) (before t) (new-told t of) (gives-told t of) (planIn (t .jobs) q)
               (trial-told t of) fate (fate-told t of) f;
           of-jobs = λ t of.
-              tried .of-jobs (t .jobs) (waitsLeft t) (of .waits-left) (of .of-jobs) (of .place-of-job);
+              tried .of-jobs (t .jobs) (waitsLeft t) (of .columns-of .waits-left) (of .of-jobs) (of .place-of-job);
         }

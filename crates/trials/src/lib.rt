@@ -1,11 +1,11 @@
 // Steps 6 and 7 of "From jobs to a plan": a job's trial along its chain, and its turn. The plan is the first so many of
 // a lent column of places of jobs in the table. The key of each job stands in another, at the job's place.
 use columns::Terms;
-use entries::copy_front;
 use entries::in_time;
 use entries::index_of;
 use entries::insert;
 use entries::total_cycles;
+use filling::copy_front;
 use rules::FATE_BUDGET;
 use rules::FATE_PLANNED;
 use rules::FATE_RATIO_ZERO;
@@ -14,26 +14,38 @@ use rules::MOST_HOLDS;
 use rules::MOST_JOBS;
 ghost use mathlib.Core.Bool.{cond, not};
 ghost use mathlib.Core.Path.{_≡_};
-ghost use Prim.Native.Nat.{min};
+ghost use Prim.Native.Nat.{_<_, min};
 ghost use lib.Dec.{ltb};
 ghost use Rattle.rules.specs.Plan.{fateBudget, fatePlanned, fateTime};
-ghost use Rattle.trials.specs.Promises.{Judgeable, Judged, Member, Steppable, Triable, Tried};
-ghost use Rattle.trials.specs.Promises.{Turnable, TurnTaken};
+ghost use Rattle.rules.specs.TableText.{mostJobs};
+ghost use Rattle.trials.specs.Promises.{Judgeable, FateJudged, Member, TrialStanding, Triable, Tried, Turnable, TurnTaken};
+ghost use Rattle.trials.specs.Promises.{columnsRead, planParts, trialParts};
 
 // The key of a job that is not in the plan: above every time.
 pub const NOT_PLANNED: u64 = 1000000001;
 
-// A plan in mid-trial: how many entries it has, the limit, and where the next member is looked for first. A member that
-// is moved leaves its index to the entry before it, which often is the next member.
-pub struct Limited {
+// The plan's totals: how many entries it has. Its places and keys stand in lent columns.
+pub struct Totals {
     pub count: usize,
+}
+
+// The job whose turn it is: its place, and what the members of its chain give.
+pub struct JobInTurn {
+    pub place: usize,
+    pub over: u64,
+}
+
+// A plan in mid-trial: its totals, the limit, and where the next member is looked for first. A member that is moved
+// leaves its index to the entry before it, which often is the next member.
+pub struct MidTrial {
+    pub totals: Totals,
     pub limit: u64,
     pub near: usize,
 }
 
-// What a turn leaves: how many entries the plan has, and the fate of the turn's job.
+// What a turn leaves: the plan's totals, and the fate of the turn's job.
 pub struct Turned {
-    pub count: usize,
+    pub totals: Totals,
     pub fate: u64,
 }
 
@@ -52,20 +64,21 @@ fn lower(limit: u64, critical: u64) -> u64
 fn member(
     places: &mut [u64],
     keys: &mut [u64; MOST_JOBS],
-    from: Limited,
+    from: MidTrial,
     place: usize,
     critical: u64,
-) -> Limited
-    requires { ⌜ Steppable from place (now places) (now keys) ⌝ }
-    ensures { λ r. ⌜ Member from place critical (now (places .entry)) (now (keys .entry)) (now (places .exit)) (now (keys .exit)) r ⌝ }
+) -> MidTrial
+    requires { ⌜ TrialStanding (trialParts from (now places) (now keys)) × (place < mostJobs) ⌝ }
+    ensures { λ r. ⌜ Member (trialParts from (now (places .entry)) (now (keys .entry))) place critical (trialParts r (now (places .exit)) (now (keys .exit))) ⌝ }
 {
-    let count = from.count;
+    let totals = from.totals;
+    let count = totals.count;
     let limit = from.limit;
     let near = from.near;
     let key = keys[place];
     if key < limit {
-        return Limited {
-            count,
+        return MidTrial {
+            totals,
             limit: key,
             near,
         };
@@ -74,16 +87,16 @@ fn member(
         // The entries behind it have keys at or above the limit too: it goes among those before it, over itself.
         let at = index_of(&places[..count], near, place as u64);
         insert(&mut places[..], keys, at, place, limit);
-        return Limited {
-            count,
+        return MidTrial {
+            totals,
             limit,
             near: at,
         };
     }
     let lowered = lower(limit, critical);
     insert(&mut places[..], keys, count, place, lowered);
-    Limited {
-        count: count + 1,
+    MidTrial {
+        totals: Totals { count: count + 1 },
         limit: lowered,
         near,
     }
@@ -93,18 +106,19 @@ fn member(
 pub fn trial<'a>(
     places: &mut [u64],
     keys: &mut [u64; MOST_JOBS],
-    count: usize,
+    totals: Totals,
     place: usize,
     waits: &'a [u64; MOST_JOBS],
     critical: &'a [u64; MOST_JOBS],
-) -> usize
-    requires { ⌜ Triable count place (now critical) (now places) (now keys) ⌝ }
-    ensures { λ r. ⌜ Tried count place (now (waits .entry)) (now (critical .entry)) (now (places .entry)) (now (keys .entry)) (now (places .exit)) (now (keys .exit)) r ⌝ }
+) -> Totals
+    requires { ⌜ Triable (planParts totals (now places) (now keys)) place (now critical) ⌝ }
+    ensures { λ r. ⌜ Tried (planParts totals (now (places .entry)) (now (keys .entry))) place (now (waits .entry)) (now (critical .entry)) (planParts r (now (places .exit)) (now (keys .exit))) ⌝ }
 {
+    let count = totals.count;
     let limit = critical[place];
     insert(&mut places[..], keys, count, place, limit);
-    let mut so_far = Limited {
-        count: count + 1,
+    let mut so_far = MidTrial {
+        totals: Totals { count: count + 1 },
         limit,
         near: 0,
     };
@@ -112,13 +126,13 @@ pub fn trial<'a>(
     let mut i = 0;
     while i < MOST_HOLDS {
         if MOST_JOBS <= at {
-            return so_far.count;
+            return so_far.totals;
         }
         so_far = member(&mut places[..], keys, so_far, at, critical[at]);
         at = waits[at] as usize;
         i += 1;
     }
-    so_far.count
+    so_far.totals
 }
 
 // Step 7, the tests in their order: "the trial is dropped (fate 5). Else if .. exceed the budget, it is dropped (fate
@@ -143,7 +157,7 @@ fn judge<'a>(
     terms: Terms,
 ) -> u64
     requires { ⌜ Judgeable (now places) (now cycles) (now termination) terms ⌝ }
-    ensures { λ r. ⌜ Judged (now (places .entry)) (now (cycles .entry)) (now (termination .entry)) terms r ⌝ }
+    ensures { λ r. ⌜ FateJudged (now (places .entry)) (now (cycles .entry)) (now (termination .entry)) terms r ⌝ }
 {
     let timely = in_time(places, cycles, termination, terms.clock, terms.mhz);
     let energy = total_cycles(places, cycles) * terms.cost;
@@ -151,41 +165,47 @@ fn judge<'a>(
 }
 
 // Steps 5 to 7 for the job at this place: "A job already in the plan is passed over. Ratio 0 gives fate 4"; else its
-// trial is accepted, or dropped with fate 5 or 6. "A dropped trial leaves plan and keys as they stood": `spare` keeps
-// the plan's places while the trial is made.
+// trial is accepted, or dropped with fate 5 or 6. "A dropped trial leaves plan and keys as they stood": `kept` is room
+// for the plan's places while the trial is made. It is lent, whatever it holds, since an array here would be filled for
+// each turn.
 pub fn turn<'a>(
     places: &mut [u64; MOST_JOBS],
     keys: &mut [u64; MOST_JOBS],
-    spare: &mut [u64],
-    count: usize,
-    place: usize,
-    over: u64,
+    kept: &mut [u64; MOST_JOBS],
+    totals: Totals,
+    job: JobInTurn,
     waits: &'a [u64; MOST_JOBS],
     critical: &'a [u64; MOST_JOBS],
     cycles: &'a [u64; MOST_JOBS],
     termination: &'a [u64; MOST_JOBS],
     terms: Terms,
 ) -> Turned
-    requires { ⌜ Turnable count place (now places) (now keys) (now spare) (now critical) (now cycles) (now termination) terms ⌝ }
-    ensures { λ r. ⌜ TurnTaken count place over (now (waits .entry)) (now (critical .entry)) (now (cycles .entry)) (now (termination .entry)) (now (places .entry)) (now (keys .entry)) (now (places .exit)) (now (keys .exit)) terms r ⌝ }
+    requires { ⌜ Turnable (planParts totals (now places) (now keys)) job (columnsRead (now waits) (now critical) (now cycles) (now termination)) terms ⌝ }
+    ensures { λ r. ⌜ TurnTaken (planParts totals (now (places .entry)) (now (keys .entry))) job (columnsRead (now (waits .entry)) (now (critical .entry)) (now (cycles .entry)) (now (termination .entry))) terms (planParts (r .totals) (now (places .exit)) (now (keys .exit))) (r .fate) ⌝ }
 {
+    let place = job.place;
+    let count = totals.count;
     if keys[place] < NOT_PLANNED {
         let fate = FATE_PLANNED;
-        return Turned { count, fate };
+        return Turned { totals, fate };
     }
-    if over == 0 {
+    if job.over == 0 {
         let fate = FATE_RATIO_ZERO;
-        return Turned { count, fate };
+        return Turned { totals, fate };
     }
-    copy_front(&mut spare[..], &places[..], count);
+    copy_front(&mut kept[..], &places[..], count);
     let keys_before = *keys;
-    let tried = trial(&mut places[..], keys, count, place, waits, critical);
+    let tried = trial(&mut places[..], keys, totals, place, waits, critical);
     let whole = &places[..];
-    let fate = judge(&whole[..tried], cycles, termination, terms);
+    let entries = tried.count;
+    let fate = judge(&whole[..entries], cycles, termination, terms);
     if fate != FATE_PLANNED {
-        copy_front(&mut places[..], &spare[..], count);
+        copy_front(&mut places[..], &kept[..], count);
         *keys = keys_before;
-        return Turned { count, fate };
+        return Turned { totals, fate };
     }
-    Turned { count: tried, fate }
+    Turned {
+        totals: tried,
+        fate,
+    }
 }

@@ -3,14 +3,15 @@
 use mathlib.Core.List.{List}
 use mathlib.Core.Path.{_≡_, refl, _∙_}
 use Prim.Native.Nat.{ℕ, _≤_, _<_}
+use native.Mathlib.Omega.{arith}
 use borrow.Author.Tests.{le-leb, lt-leb}
 use lib.ListN.{length}
-use Rattle.laws.proofs.Longest.{valid-text-length}
-use Rattle.laws.proofs.Put.{put-at-front}
-use Rattle.laws.proofs.Trips.{check-exactly}
-use Rattle.laws.specs.Put.{put}
+use Rattle.grammar.proofs.Longest.{valid-text-length}
+use Rattle.grammar.proofs.Put.{put-at-front}
+use Rattle.grammar.proofs.Trips.{check-exactly}
+use Rattle.grammar.specs.Put.{put}
 use Rattle.rules.specs.Refusals.{check, refusedAt, refusedOut, taken, writing, written, writtenOf}
-use Rattle.rules.specs.TableText.{recordsOf, textOf}
+use Rattle.rules.specs.TableText.{mostHolds, mostJobs, mostSpeeds, recordsOf, textOf}
 use Rattle.rules.specs.declared.Refusal.{Refusal}
 use Rattle.rules.specs.declared.Table.{Table}
 use Rattle.rules.specs.declared.Written.{Written}
@@ -24,10 +25,21 @@ refused-answer t out why line e = record { answer = rw e; buffer = rw e }
 
 -- the records are taken
 module _ (t : Table) (e : check t ≡ taken (recordsOf t)) where
-  pub checked : Checked t
-  checked =
+  pub checked : length (t .speeds) ≡ mostSpeeds → length (t .jobs) ≡ mostJobs → length (t .holds) ≡ mostHolds → Checked t
+  checked speeds jobs holds =
       let (valid, same, fits) = check-exactly t (recordsOf t) .0 e in
-      record { speeds = fits .speeds-fit; jobs = fits .jobs-fit; holds = fits .holds-fit; bytes = valid-text-length valid }
+      record {
+        placed =
+            record {
+              speeds = omega (arith, fits .speeds-fit);
+              jobs = omega (arith, fits .jobs-fit);
+              holds = omega (arith, fits .holds-fit);
+            };
+        speeds = fits .speeds-fit;
+        jobs = fits .jobs-fit;
+        holds = fits .holds-fit;
+        bytes = valid-text-length valid;
+      }
 
   pub no-room : (out : List ℕ) → length out < length (textOf (recordsOf t)) → WrittenAs t out out (Written.Refused Refusal.Room 0)
   unfolding writing writtenOf written refusedOut

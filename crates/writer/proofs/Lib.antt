@@ -1,4 +1,3 @@
 mod Lines
-mod Text
 mod Answer
 pub mod Unique

@@ -1,144 +1,131 @@
 // Writes a table as text into a lent buffer: first the check of the records, then the length of the text and the room, then
-// the lines.
+// the lines, one after the other by their index.
+use rules::Hold;
+use rules::Job;
+use rules::MOST_FIELDS;
 use rules::Refusal;
+use rules::Speed;
 use rules::Table;
 use rules::Verdict;
 use rules::Written;
 ghost use mathlib.Core.Path.{_≡_};
-ghost use Prim.Native.Nat.{_+_, _≤_};
+ghost use Prim.Native.Nat.{_≤_};
 ghost use lib.ListN.{length};
-ghost use Rattle.laws.specs.Put.{put};
-ghost use Rattle.rules.specs.TableText.{Record, mostHolds, mostJobs, mostSpeeds, recordsOf, textOf};
-ghost use Rattle.writer.specs.Lines.{Checked, linesText};
+ghost use Rattle.grammar.specs.Put.{put};
+ghost use Rattle.rules.specs.TableText.{Record, lined, recordsOf, textOf};
+ghost use Rattle.writer.specs.Lines.{Checked, LineAt, Writes};
 ghost use Rattle.writer.specs.Promise.{WrittenAs};
 
-// How many bytes the F lines have.
-fn speeds_length(table: Table) -> usize
-    requires { ⌜ table .«speed_count» ≤ mostSpeeds ⌝ }
-    ensures { λ r. ⌜ r ≡ length (linesText Record.F (recordsOf table .speeds)) ⌝ }
-{
-    let mut bytes: usize = 0;
-    let mut i = 0;
-    while i < table.speed_count {
-        let speed = table.speeds[i];
-        let fields = [speed.mhz, speed.cost];
-        bytes += digits::line_length(&fields);
-        i += 1;
-    }
-    bytes
+// Which record stands on a line: its letter, and its place among the table's records of that letter.
+enum LineRecord {
+    Clock,
+    Speed(usize),
+    Job(usize),
+    Hold(usize),
 }
 
-// How many bytes the J lines have.
-fn jobs_length(table: Table) -> usize
-    requires { ⌜ table .«job_count» ≤ mostJobs ⌝ }
-    ensures { λ r. ⌜ r ≡ length (linesText Record.J (recordsOf table .jobs)) ⌝ }
+// A line's letter and its numbers: the first `count` of those here.
+struct Row {
+    letter: u8,
+    count: usize,
+    numbers: [u64; MOST_FIELDS],
+}
+
+fn clock_row(clock: u64, budget: u64) -> Row
+    ensures { λ r. ⌜ Writes (Record.T clock budget) r ⌝ }
 {
-    let mut bytes: usize = 0;
-    let mut i = 0;
-    while i < table.job_count {
-        let job = table.jobs[i];
-        let fields = [
+    Row {
+        letter: b'T',
+        count: 2,
+        numbers: [clock, budget, 0, 0, 0, 0],
+    }
+}
+
+fn speed_row(speed: Speed) -> Row
+    ensures { λ r. ⌜ Writes (Record.F speed) r ⌝ }
+{
+    Row {
+        letter: b'F',
+        count: 2,
+        numbers: [speed.mhz, speed.cost, 0, 0, 0, 0],
+    }
+}
+
+fn job_row(job: Job) -> Row
+    ensures { λ r. ⌜ Writes (Record.J job) r ⌝ }
+{
+    Row {
+        letter: b'J',
+        count: 6,
+        numbers: [
             job.number,
             job.cycles,
             job.worth,
             job.critical,
             job.termination,
             job.request,
-        ];
-        bytes += digits::line_length(&fields);
-        i += 1;
+        ],
     }
-    bytes
 }
 
-// How many bytes the H lines have.
-fn holds_length(table: Table) -> usize
-    requires { ⌜ table .«hold_count» ≤ mostHolds ⌝ }
-    ensures { λ r. ⌜ r ≡ length (linesText Record.H (recordsOf table .holds)) ⌝ }
+fn hold_row(hold: Hold) -> Row
+    ensures { λ r. ⌜ Writes (Record.H hold) r ⌝ }
 {
-    let mut bytes: usize = 0;
-    let mut i = 0;
-    while i < table.hold_count {
-        let hold = table.holds[i];
-        let fields = [hold.resource, hold.holder];
-        bytes += digits::line_length(&fields);
-        i += 1;
+    Row {
+        letter: b'H',
+        count: 2,
+        numbers: [hold.resource, hold.holder, 0, 0, 0, 0],
     }
-    bytes
 }
 
-// How many bytes the text has.
+// How many lines the text has.
+fn line_count(table: Table) -> usize
+    requires { ⌜ Checked table ⌝ }
+    ensures { λ r. ⌜ r ≡ length (lined (recordsOf table)) ⌝ }
+{
+    1 + table.speed_count + table.job_count + table.hold_count
+}
+
+// Which record stands on line i, counted from 0, where there are so many speeds and jobs.
+fn line_at(speed_count: usize, job_count: usize, i: usize) -> LineRecord
+    ensures { λ r. ⌜ LineAt «speed_count» «job_count» i r ⌝ }
+{
+    if i == 0 {
+        return LineRecord::Clock;
+    }
+    let behind_clock = i - 1;
+    if behind_clock < speed_count {
+        return LineRecord::Speed(behind_clock);
+    }
+    let behind_speeds = behind_clock - speed_count;
+    if behind_speeds < job_count {
+        return LineRecord::Job(behind_speeds);
+    }
+    LineRecord::Hold(behind_speeds - job_count)
+}
+
+// How many bytes the text has. A table given to a function is copied, so that the loop itself reads the record.
 fn text_length(table: Table) -> usize
     requires { ⌜ Checked table ⌝ }
     ensures { λ r. ⌜ r ≡ length (textOf (recordsOf table)) ⌝ }
 {
-    let fields = [table.clock, table.budget];
-    let behind_clock = speeds_length(table) + jobs_length(table) + holds_length(table);
-    digits::line_length(&fields) + behind_clock
-}
-
-// Writes the F lines at a place, and hands back the place behind them.
-fn put_speeds(table: Table, out: &mut [u8], at: usize) -> usize
-    requires { ⌜ (table .«speed_count» ≤ mostSpeeds) × (at + length (linesText Record.F (recordsOf table .speeds)) ≤ length (now out)) ⌝ }
-    ensures { λ r. ⌜
-        (r ≡ at + length (linesText Record.F (recordsOf table .speeds)))
-        × (now (out .exit) ≡ put (now (out .entry)) at (linesText Record.F (recordsOf table .speeds)))
-        ⌝ }
-{
-    let mut next = at;
-    let mut i = 0;
-    while i < table.speed_count {
-        let speed = table.speeds[i];
-        let numbers = [speed.mhz, speed.cost];
-        next = digits::put_line(out, next, b'F', &numbers);
-        i += 1;
+    let lines = line_count(table);
+    let mut bytes: usize = 0;
+    let mut counted = 0;
+    while counted < lines {
+        let line = line_at(table.speed_count, table.job_count, counted);
+        let row = match line {
+            LineRecord::Clock => clock_row(table.clock, table.budget),
+            LineRecord::Speed(n) => speed_row(table.speeds[n]),
+            LineRecord::Job(n) => job_row(table.jobs[n]),
+            LineRecord::Hold(n) => hold_row(table.holds[n]),
+        };
+        let fields = row.numbers;
+        let count = row.count;
+        bytes += digits::line_length(&fields[..count]);
+        counted += 1;
     }
-    next
-}
-
-// Writes the J lines at a place, and hands back the place behind them.
-fn put_jobs(table: Table, out: &mut [u8], at: usize) -> usize
-    requires { ⌜ (table .«job_count» ≤ mostJobs) × (at + length (linesText Record.J (recordsOf table .jobs)) ≤ length (now out)) ⌝ }
-    ensures { λ r. ⌜
-        (r ≡ at + length (linesText Record.J (recordsOf table .jobs)))
-        × (now (out .exit) ≡ put (now (out .entry)) at (linesText Record.J (recordsOf table .jobs)))
-        ⌝ }
-{
-    let mut next = at;
-    let mut i = 0;
-    while i < table.job_count {
-        let job = table.jobs[i];
-        let numbers = [
-            job.number,
-            job.cycles,
-            job.worth,
-            job.critical,
-            job.termination,
-            job.request,
-        ];
-        next = digits::put_line(out, next, b'J', &numbers);
-        i += 1;
-    }
-    next
-}
-
-// Writes the H lines at a place, and hands back the place behind them.
-fn put_holds(table: Table, out: &mut [u8], at: usize) -> usize
-    requires { ⌜ (table .«hold_count» ≤ mostHolds) × (at + length (linesText Record.H (recordsOf table .holds)) ≤ length (now out)) ⌝ }
-    ensures { λ r. ⌜
-        (r ≡ at + length (linesText Record.H (recordsOf table .holds)))
-        × (now (out .exit) ≡ put (now (out .entry)) at (linesText Record.H (recordsOf table .holds)))
-        ⌝ }
-{
-    let mut next = at;
-    let mut i = 0;
-    while i < table.hold_count {
-        let hold = table.holds[i];
-        let numbers = [hold.resource, hold.holder];
-        next = digits::put_line(out, next, b'H', &numbers);
-        i += 1;
-    }
-    next
+    bytes
 }
 
 // Writes the text at the front of the buffer, and hands back its length.
@@ -149,11 +136,23 @@ fn put_text(table: Table, out: &mut [u8]) -> usize
         × (now (out .exit) ≡ put (now (out .entry)) 0 (textOf (recordsOf table)))
         ⌝ }
 {
-    let numbers = [table.clock, table.budget];
-    let behind_clock = digits::put_line(out, 0, b'T', &numbers);
-    let behind_speeds = put_speeds(table, out, behind_clock);
-    let behind_jobs = put_jobs(table, out, behind_speeds);
-    put_holds(table, out, behind_jobs)
+    let lines = line_count(table);
+    let mut next = 0;
+    let mut written = 0;
+    while written < lines {
+        let line = line_at(table.speed_count, table.job_count, written);
+        let row = match line {
+            LineRecord::Clock => clock_row(table.clock, table.budget),
+            LineRecord::Speed(n) => speed_row(table.speeds[n]),
+            LineRecord::Job(n) => job_row(table.jobs[n]),
+            LineRecord::Hold(n) => hold_row(table.holds[n]),
+        };
+        let fields = row.numbers;
+        let count = row.count;
+        next = digits::put_line(out, next, row.letter, &fields[..count]);
+        written += 1;
+    }
+    next
 }
 
 // Writes a table's text to the front of a lent buffer and answers its length; or else changes nothing and answers the first

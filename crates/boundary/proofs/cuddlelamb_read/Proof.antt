@@ -3,7 +3,7 @@ use mathlib.Core.List.{[]}
 use mathlib.Core.Path.{ap, _∙_}
 use Rattle.boundary.proofs.Says.{told-says}
 use Rattle.boundary.specs.declared.Told.{Told}
-use Rattle.rules.specs.Answers.{TableAnswer}
+use Rattle.rules.specs.Answers.{ReadAnswer}
 use borrow.Author.Needs.{needs}
 use Rattle.boundary.proofs.cuddlelamb_read.Statement.{statement}
 use Rattle.boundary.proofs.cuddlelamb_read.Tie as tie
@@ -21,8 +21,8 @@ returns c =
       answer =
           ap (λ (t : Told). record { number = t .number; line = t .line; values = [] }) (c .before .told-by .ensures)
           ∙ told-says (done .result .verdict) []
-          ∙ ap (λ (a : TableAnswer). a .answer) (done .ensures);
-      table = ap (λ (a : TableAnswer). a .table) (done .ensures);
+          ∙ ap (λ (a : ReadAnswer). a .answer) (done .ensures);
+      table = ap (λ (a : ReadAnswer). a .table) (done .ensures);
     }
 
 pub cuddlelamb-read-spec : {M : Type 1} → statement M

@@ -2,45 +2,46 @@
 -- the whole walk gives; what is left of the cycles is the cycles of those yet to meet, so that the next member ends then.
 -- The measure is what is left of the steps. Assumes nothing.
 use mathlib.Core.List.{List}
-use mathlib.Core.Path.{_≡_, sym, ap, _∙_}
+use mathlib.Core.Path.{_≡_, refl, sym, ap, _∙_}
 use Prim.Native.Nat.{ℕ, _+_, _*_, _-_, _≤_}
 use native.Mathlib.Omega.{arith}
 use borrow.Author.Needs.{needs}
 use lib.ListN.{getD}
-use Rattle.chains.proofs.ChainSums.{given-at-places, member-and-behind, member-gives}
-use Rattle.chains.proofs.ChainSums.{sumAt, sumGiven}
+use Rattle.chains.proofs.ChainSums.{given-at-places, member-and-behind, member-gives, mhz-told}
+use Rattle.chains.proofs.ChainSums.{runTold, sumAt, sumGiven, tableTold}
 use Rattle.chains.proofs.Walks.{chain-met, no-step-left, nobody-met}
 use Rattle.chains.proofs.chain_gives.Statement.{statement}
 use Rattle.chains.proofs.chain_gives.Tie as tie
-use Rattle.chains.specs.Promises.{ChainGives, mostMembers, mostWorth}
+use Rattle.chains.specs.Promises.{ChainGives, mostMembers}
 use Rattle.chains.specs.Waits.{placesFrom}
-use Rattle.laws.proofs.ChainRuns.{chainGives}
-use Rattle.rules.specs.TableText.{mostCycles}
+use Rattle.columns.specs.declared.Terms.{Terms}
+use Rattle.steps.proofs.ChainRuns.{chainGives}
+use Rattle.rules.specs.TableText.{mostCycles, mostWorth}
 
-promised : (place : ℕ) (waits cycles worth termination : List ℕ) (clock mhz r : ℕ)
-    → r ≡ sumGiven cycles worth termination clock mhz (placesFrom waits mostMembers place)
-    → r ≤ mostWorth * mostMembers → ChainGives place waits cycles worth termination clock mhz r
-promised place waits cycles worth termination clock mhz r e l = record {
-  sum = λ t js next column h cycles-of worth-of termination-of clock-of mhz-of.
+promised : (place : ℕ) (waits cycles worth termination : List ℕ) (terms : Terms) (r : ℕ)
+    → r ≡ sumGiven cycles worth termination (terms .clock) (terms .mhz) (placesFrom waits mostMembers place)
+    → r ≤ mostWorth * mostMembers → ChainGives place waits cycles worth termination terms r
+promised place waits cycles worth termination terms r e l = record {
+  sum = λ t js next column h runs worth-of of.
       e
       ∙ sym
-      (given-at-places cycles worth termination clock mhz t js cycles-of worth-of termination-of clock-of mhz-of
-      (placesFrom waits mostMembers place))
+      (given-at-places cycles worth termination (terms .clock) (terms .mhz) t js (runs .cycles-of) worth-of
+      (runs .termination-of) (sym (of .clock)) (sym (of .mhz)) (placesFrom waits mostMembers place))
       ∙ ap (chainGives t) (chain-met js next waits column place h);
   at-most = l;
 }
 
 abbrev Inv-loop : tie.InvT-loop
-Inv-loop place waits cycles worth termination clock mhz all sum₀ left₀ at₀ i₀ sum left at i =
+Inv-loop place waits cycles worth termination terms all sum₀ left₀ at₀ i₀ sum left at i =
     (i ≤ mostMembers)
     × (sum ≤ mostWorth * i)
     × (left ≤ mostCycles * mostMembers)
     × (left ≡ sumAt cycles (placesFrom waits (mostMembers - i) at))
-    × (sum + sumGiven cycles worth termination clock mhz (placesFrom waits (mostMembers - i) at)
-    ≡ sumGiven cycles worth termination clock mhz (placesFrom waits mostMembers place))
+    × (sum + sumGiven cycles worth termination (terms .clock) (terms .mhz) (placesFrom waits (mostMembers - i) at)
+    ≡ sumGiven cycles worth termination (terms .clock) (terms .mhz) (placesFrom waits mostMembers place))
 
 abbrev μ-loop : tie.MeasureT-loop
-μ-loop place waits cycles worth termination clock mhz all sum₀ left₀ at₀ i₀ sum left at i = mostMembers - i
+μ-loop place waits cycles worth termination terms all sum₀ left₀ at₀ i₀ sum left at i = mostMembers - i
 
 -- what the next member leaves of the cycles, and what it gives
 cycles-behind : (c : tie.Else1 Inv-loop μ-loop) →
@@ -53,15 +54,15 @@ cycles-behind : (c : tie.Else1 Inv-loop μ-loop) →
 cycles-behind c =
     let args = c .before .before .before .args in
     let loop = c .before .before .loop in
-    member-and-behind (args .cycles .now) (args .worth .now) (args .termination .now) (args .clock) (args .mhz)
+    member-and-behind (args .cycles .now) (args .worth .now) (args .termination .now) (args .terms .clock) (args .terms .mhz)
     (args .waits .now) (mostMembers - loop .i) (mostMembers - (loop .i + 1)) (loop .at) (loop .left) (omega arith)
     (omega arith) (loop .inv .3)
 
-given-small : (c : tie.After-given Inv-loop μ-loop) → c .given .result ≤ mostWorth
+given-small : (c : tie.After-gives Inv-loop μ-loop) → c .gives .result ≤ mostWorth
 given-small c =
     let start = c .before .before .before .before .before .before .before in
     let loop = c .before .before .before .before .before .before .loop in
-    omega (arith, c .given .ensures .1, start .pre .worth-small (loop .at))
+    omega (arith, c .gives .ensures .at-most, start .pre .worth-small (loop .at))
 
 loop-holds : tie.Need-loop-holds Inv-loop μ-loop
 loop-holds c = (omega arith, omega arith, c .pre .all-small, c .pre .all-along, omega arith)
@@ -70,9 +71,9 @@ returns : tie.Need-returns Inv-loop μ-loop
 returns c =
     let args = c .before .before .before .args in
     let loop = c .before .before .loop in
-    let rest = ap (sumGiven (args .cycles .now) (args .worth .now) (args .termination .now) (args .clock) (args .mhz))
+    let rest = ap (sumGiven (args .cycles .now) (args .worth .now) (args .termination .now) (args .terms .clock) (args .terms .mhz))
     (nobody-met (args .waits .now) (mostMembers - loop .i) (loop .at) (c .if1 .taken)) in
-    promised _ _ _ _ _ _ _ _ (omega (arith, loop .inv .4, rest)) (omega arith)
+    promised _ _ _ _ _ _ _ (omega (arith, loop .inv .4, rest)) (omega arith)
 
 mul-own : tie.Need-mul-own Inv-loop μ-loop
 mul-own c = search needs
@@ -80,27 +81,27 @@ mul-own c = search needs
 element-copy-out-own : tie.Need-element-copy-out-own Inv-loop μ-loop
 element-copy-out-own c = search needs
 
-mul-given : tie.Need-mul-given Inv-loop μ-loop
-mul-given c = search needs
+mul-gives : tie.Need-mul-gives Inv-loop μ-loop
+mul-gives c = search needs
 
-element-copy-out-given : tie.Need-element-copy-out-given Inv-loop μ-loop
-element-copy-out-given c = search needs
+element-copy-out-gives : tie.Need-element-copy-out-gives Inv-loop μ-loop
+element-copy-out-gives c = search needs
 
-mul-given-2 : tie.Need-mul-given-2 Inv-loop μ-loop
-mul-given-2 c = search needs
+mul-gives-2 : tie.Need-mul-gives-2 Inv-loop μ-loop
+mul-gives-2 c = search needs
 
-element-copy-out-given-2 : tie.Need-element-copy-out-given-2 Inv-loop μ-loop
-element-copy-out-given-2 c = search needs
+element-copy-out-gives-2 : tie.Need-element-copy-out-gives-2 Inv-loop μ-loop
+element-copy-out-gives-2 c = search needs
 
-given-requires : tie.Need-given-requires Inv-loop μ-loop
-given-requires c κs =
+gives-requires : tie.Need-gives-requires Inv-loop μ-loop
+gives-requires c κs =
     let start = c .before .before .before .before .before .before in
     let loop = c .before .before .before .before .before .loop in
     record {
-      clock-small = start .pre .clock-small;
-      mhz-small = start .pre .mhz-small;
+      clock-small = start .pre .terms-small .clock;
+      mhz-small = start .pre .terms-small .mhz;
       cycles-small = omega (arith, cycles-behind (c .before .before .before));
-      termination-small = start .pre .termination-small (loop .at);
+      termination-small = start .pre .runs-small .termination-small (loop .at);
     }
 
 add-sum : tie.Need-add-sum Inv-loop μ-loop
@@ -126,14 +127,17 @@ loop-again c =
     let args = c .before .before .before .before .before .before .before .before .args in
     let loop = c .before .before .before .before .before .before .before .loop in
     let behind = cycles-behind (c .before .before .before .before .before) in
-    let gives = member-gives (args .cycles .now) (args .worth .now) (args .termination .now) (args .clock) (args .mhz)
+    let next-gives = member-gives (args .cycles .now) (args .worth .now) (args .termination .now) (args .terms .clock) (args .terms .mhz)
     (args .waits .now) (mostMembers - loop .i) (mostMembers - (loop .i + 1)) (loop .at) (loop .left) (omega arith)
-    (omega arith) (loop .inv .3) in (
+    (omega arith) (loop .inv .3) in
+    let so = c .before .gives .ensures .gives-so (tableTold (args .cycles .now) (args .worth .now) (args .termination .now) (args .terms .clock) (args .terms .mhz))
+    (runTold (args .cycles .now) (args .worth .now) (args .termination .now) (args .terms .clock) (args .terms .mhz) (loop .left) (loop .at))
+    refl (mhz-told (args .cycles .now) (args .worth .now) (args .termination .now) (args .terms .clock) (args .terms .mhz)) refl refl refl in (
       omega arith,
       omega (arith, given-small (c .before)),
       omega arith,
       omega (arith, behind),
-      omega (arith, loop .inv .4, gives, c .before .given .ensures .0),
+      omega (arith, loop .inv .4, next-gives, so),
     )
 
 returns-2 : tie.Need-returns-2 Inv-loop μ-loop
@@ -142,9 +146,9 @@ returns-2 c =
     let loop = c .before .loop in
     let none : mostMembers - loop .i ≡ 0 = omega arith in
     let rest = ap (λ n. placesFrom (args .waits .now) n (loop .at)) none ∙ no-step-left (args .waits .now) (loop .at) in
-    let nothing = ap (sumGiven (args .cycles .now) (args .worth .now) (args .termination .now) (args .clock) (args .mhz))
+    let nothing = ap (sumGiven (args .cycles .now) (args .worth .now) (args .termination .now) (args .terms .clock) (args .terms .mhz))
     rest in
-    promised _ _ _ _ _ _ _ _ (omega (arith, loop .inv .4, nothing)) (omega arith)
+    promised _ _ _ _ _ _ _ (omega (arith, loop .inv .4, nothing)) (omega arith)
 
 pub chain-gives-spec : {M : Type 1} → statement M
 chain-gives-spec =
@@ -156,11 +160,11 @@ chain-gives-spec =
     returns
     mul-own
     element-copy-out-own
-    mul-given
-    element-copy-out-given
-    mul-given-2
-    element-copy-out-given-2
-    given-requires
+    mul-gives
+    element-copy-out-gives
+    mul-gives-2
+    element-copy-out-gives-2
+    gives-requires
     add-sum
     sub-left
     mul-at

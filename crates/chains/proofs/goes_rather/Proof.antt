@@ -9,10 +9,11 @@ use borrow.Author.Tests.{eq-eqb, le-ltb, lt-ltb, ne-eqb}
 use lib.Dec.{eqb, leb, ltb}
 use Rattle.chains.proofs.goes_rather.Statement.{statement}
 use Rattle.chains.proofs.goes_rather.Tie as tie
-use Rattle.chains.specs.Promises.{Weighs, mostWorth}
-use Rattle.rules.specs.Plan.{equal, goesRather, less, weightIn}
-use Rattle.rules.specs.TableText.{Records, mostCycles}
+use Rattle.chains.specs.Promises.{Weighs}
+use Rattle.rules.specs.Plan.{equal, goesRather, less}
+use Rattle.rules.specs.TableText.{Records, mostCycles, mostWorth}
 use Rattle.rules.specs.declared.Job.{Job}
+use Rattle.steps.proofs.Given.{weight-is}
 
 small : {worth cycles : ℕ} → worth ≤ mostWorth → cycles ≤ mostCycles → worth * cycles ≤ mostWorth * mostCycles
 small h l = mul-le-mul h l
@@ -27,9 +28,9 @@ module _ (worth cycles number other-worth other-cycles other-number : ℕ) (t : 
 
   goes-by-products : goesRather t j k
       ≡ ltb weight other-weight || (eqb weight other-weight && leb other-number number)
-  unfolding goesRather less equal weightIn
+  unfolding goesRather less equal
   goes-by-products =
-      rw (one .worth-of, one .cycles-of, one .number-of, other .worth-of, other .cycles-of, other .number-of)
+      rw (weight-is t j, weight-is t k, one .worth-of, one .cycles-of, one .number-of, other .worth-of, other .cycles-of, other .number-of)
 
   lighter : weight < other-weight → true ≡ goesRather t j k
   lighter h = rw (goes-by-products, lt-ltb weight other-weight h)

@@ -10,8 +10,8 @@ use borrow.Author.Tests.{leb-false, leb-true, le-ltb, lt-ltb}
 use lib.Dec.{leb, ltb}
 use Rattle.chains.proofs.late.Statement.{statement}
 use Rattle.chains.proofs.late.Tie as tie
-use Rattle.entries.specs.Promises.{mostMhz, mostTime}
 use Rattle.rules.specs.Plan.{endsBy}
+use Rattle.rules.specs.TableText.{mostMhz, mostTime}
 
 small : {time mhz : ℕ} → time ≤ mostTime → mhz ≤ mostMhz → time * mhz ≤ mostTime * mostMhz
 small h l = mul-le-mul h l

@@ -1,4 +1,4 @@
--- `chains::place_of` meets its contract: the place found is that of the job of the number, and 64 is nobody's. Assumes
+-- `chains::place_of` meets its contract: the place found is that of the job of the number, and `mostJobs` is nobody's. Assumes
 -- nothing.
 use mathlib.Core.Logic.{inl, inr}
 use mathlib.Core.Path.{refl}

@@ -12,7 +12,7 @@ use Rattle.records.specs.Faults.{faultSays, lookedUp}
 use Rattle.records.specs.Standing.{standingOf}
 use Rattle.rules.specs.Refusals.{faultOf}
 use Rattle.rules.specs.TableText.{Record, mostHolds, mostJobs, mostSpeeds, noHold, recordsOf}
-use Rattle.checks.specs.Passing.{lineAfter, holdsPassed, withHolds}
+use Rattle.checks.specs.Passing.{lineAfter, holdsPassed, holdsBefore}
 use Rattle.checks.proofs.Letters.{leftFrom, left-bad, left-beyond, left-more, left-none, few-jobs, few-speeds, holdPart, holds-from-first, stands-next}
 use Rattle.checks.proofs.Parts.{stopped-at, through-at}
 use borrow.Author.Needs.{needs}
@@ -23,7 +23,7 @@ abbrev Inv-loop : tie.InvT-loop
 Inv-loop before table numbers requests state₀ i₀ state i =
     (i ≤ table .«hold_count»)
     × (i ≤ mostHolds)
-    × (state ≡ standingOf (withHolds (recordsOf table) (take i (table .holds))))
+    × (state ≡ standingOf (holdsBefore (recordsOf table) (take i (table .holds))))
     × (leftFrom (holdPart table) i ≡ holdsPassed table)
 
 abbrev μ-loop : tie.MeasureT-loop
@@ -62,7 +62,7 @@ line-is c e = e ∙ rw (c .loop .inv .2) (omega (arith, counted c))
 fault : (c : tie.After-judge-hold Inv-loop μ-loop)
     → let a = c .before .before .before .before .before .before .before in
     let t = a .before .before .before .before .args .t1 in
-    faultOf (withHolds (recordsOf t) (take (a .loop .i) (t .holds))) (Record.H (getD (t .holds) (a .loop .i) noHold)) ≡ faultSays (c .judge-hold .result)
+    faultOf (holdsBefore (recordsOf t) (take (a .loop .i) (t .holds))) (Record.H (getD (t .holds) (a .loop .i) noHold)) ≡ faultSays (c .judge-hold .result)
 fault c =
     let a = c .before .before .before .before .before .before .before in
     let s = a .before .before .before .before in
@@ -72,7 +72,7 @@ fault c =
     let columns = a .before .before .before .columns-of .ensures in
     let found : c .before .holder-of .result ≡ lookedUp js (h .holder) =
     c .before .holder-of .ensures js (rw (s .pre .state) refl) (s .pre .rising) (columns .number) (columns .request) in
-    hold-fault (withHolds (recordsOf t) (take (a .loop .i) (t .holds))) h (c .before .holder-of .result)
+    hold-fault (holdsBefore (recordsOf t) (take (a .loop .i) (t .holds))) h (c .before .holder-of .result)
     (holder-fault-looked-up h js (s .pre .rising) ∙ rw found refl)
     ∙ rw (← a .loop .inv .2) (sym (c .judge-hold .ensures))
 
@@ -152,7 +152,7 @@ loop-again c =
       omega arith,
       omega arith,
       c .after-hold .ensures
-          ∙ rw (a .loop .inv .2) (sym (hold-after (withHolds (recordsOf t) (take i (t .holds))) (getD (t .holds) i noHold)))
+          ∙ rw (a .loop .inv .2) (sym (hold-after (holdsBefore (recordsOf t) (take i (t .holds))) (getD (t .holds) i noHold)))
           ∙ ap standingOf (stands-next (holdPart t) i room),
       sym (left-more (holdPart t) i more room (fault j ∙ rw (c .before .enum-told .given .1))) ∙ a .loop .inv .3,
     )

@@ -11,7 +11,7 @@ use Rattle.records.specs.Faults.{faultSays}
 use Rattle.records.specs.Standing.{standingOf}
 use Rattle.rules.specs.Refusals.{faultOf}
 use Rattle.rules.specs.TableText.{Record, mostHolds, mostJobs, mostSpeeds, noJob, recordsOf}
-use Rattle.checks.specs.Passing.{lineAfter, jobsPassed, withJobs}
+use Rattle.checks.specs.Passing.{lineAfter, jobsPassed, jobsBefore}
 use Rattle.checks.proofs.Letters.{leftFrom, left-bad, left-beyond, left-more, left-none, few-speeds, jobPart, jobs-from-first, stands-next}
 use Rattle.checks.proofs.Parts.{stopped-at, through-at}
 use borrow.Author.Needs.{needs}
@@ -22,7 +22,7 @@ abbrev Inv-loop : tie.InvT-loop
 Inv-loop table state₀ i₀ state i =
     (i ≤ table .«job_count»)
     × (i ≤ mostJobs)
-    × (state ≡ standingOf (withJobs (recordsOf table) (take i (table .jobs))))
+    × (state ≡ standingOf (jobsBefore (recordsOf table) (take i (table .jobs))))
     × (leftFrom (jobPart table) i ≡ jobsPassed table)
 
 abbrev μ-loop : tie.MeasureT-loop
@@ -52,11 +52,11 @@ line-is c e = e ∙ rw (c .loop .inv .2) (omega (arith, counted c))
 fault : (c : tie.After-judge-job Inv-loop μ-loop)
     → let a = c .before .before .before .before in
     let t = a .before .args .t1 in
-    faultOf (withJobs (recordsOf t) (take (a .loop .i) (t .jobs))) (Record.J (getD (t .jobs) (a .loop .i) noJob)) ≡ faultSays (c .judge-job .result)
+    faultOf (jobsBefore (recordsOf t) (take (a .loop .i) (t .jobs))) (Record.J (getD (t .jobs) (a .loop .i) noJob)) ≡ faultSays (c .judge-job .result)
 fault c =
     let a = c .before .before .before .before in
     let t = a .before .args .t1 in
-    job-fault (withJobs (recordsOf t) (take (a .loop .i) (t .jobs))) (getD (t .jobs) (a .loop .i) noJob)
+    job-fault (jobsBefore (recordsOf t) (take (a .loop .i) (t .jobs))) (getD (t .jobs) (a .loop .i) noJob)
     ∙ rw (← a .loop .inv .2) (sym (c .judge-job .ensures))
 
 loop-holds : tie.Need-loop-holds Inv-loop μ-loop
@@ -121,7 +121,7 @@ loop-again c =
       omega arith,
       omega arith,
       c .after-job .ensures
-          ∙ rw (a .loop .inv .2) (sym (job-after (withJobs (recordsOf t) (take i (t .jobs))) (getD (t .jobs) i noJob)))
+          ∙ rw (a .loop .inv .2) (sym (job-after (jobsBefore (recordsOf t) (take i (t .jobs))) (getD (t .jobs) i noJob)))
           ∙ ap standingOf (stands-next (jobPart t) i room),
       sym (left-more (jobPart t) i (omega arith) room
           (fault j ∙ rw (c .before .enum-told .given .1)))

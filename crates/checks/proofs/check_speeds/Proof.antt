@@ -11,7 +11,7 @@ use Rattle.records.specs.Faults.{faultSays}
 use Rattle.records.specs.Standing.{standingOf}
 use Rattle.rules.specs.Refusals.{faultOf}
 use Rattle.rules.specs.TableText.{Record, mostHolds, mostJobs, mostSpeeds, noSpeed, recordsOf}
-use Rattle.checks.specs.Passing.{lineAfter, speedsPassed, withSpeeds}
+use Rattle.checks.specs.Passing.{lineAfter, speedsPassed, speedsBefore}
 use Rattle.checks.proofs.Letters.{leftFrom, left-bad, left-beyond, left-more, left-none, no-speed, speedPart, speeds-from-first, stands-next}
 use Rattle.checks.proofs.Parts.{stopped-at, through-at}
 use borrow.Author.Needs.{needs}
@@ -22,7 +22,7 @@ abbrev Inv-loop : tie.InvT-loop
 Inv-loop table state₀ i₀ state i =
     (i ≤ table .«speed_count»)
     × (i ≤ mostSpeeds)
-    × (state ≡ standingOf (withSpeeds (recordsOf table) (take i (table .speeds))))
+    × (state ≡ standingOf (speedsBefore (recordsOf table) (take i (table .speeds))))
     × (leftFrom (speedPart table) i ≡ speedsPassed table)
 
 abbrev μ-loop : tie.MeasureT-loop
@@ -49,11 +49,11 @@ line-is c e = e ∙ rw (c .loop .inv .2) (omega (arith, counted c))
 fault : (c : tie.After-judge-speed Inv-loop μ-loop)
     → let a = c .before .before .before .before in
     let t = a .before .before .args .t1 in
-    faultOf (withSpeeds (recordsOf t) (take (a .loop .i) (t .speeds))) (Record.F (getD (t .speeds) (a .loop .i) noSpeed)) ≡ faultSays (c .judge-speed .result)
+    faultOf (speedsBefore (recordsOf t) (take (a .loop .i) (t .speeds))) (Record.F (getD (t .speeds) (a .loop .i) noSpeed)) ≡ faultSays (c .judge-speed .result)
 fault c =
     let a = c .before .before .before .before in
     let t = a .before .before .args .t1 in
-    speed-fault (withSpeeds (recordsOf t) (take (a .loop .i) (t .speeds))) (getD (t .speeds) (a .loop .i) noSpeed)
+    speed-fault (speedsBefore (recordsOf t) (take (a .loop .i) (t .speeds))) (getD (t .speeds) (a .loop .i) noSpeed)
     ∙ rw (← a .loop .inv .2) (sym (c .judge-speed .ensures))
 
 returns : tie.Need-returns Inv-loop μ-loop
@@ -123,7 +123,7 @@ loop-again c =
       omega arith,
       omega arith,
       c .after-speed .ensures
-          ∙ rw (a .loop .inv .2) (sym (speed-after (withSpeeds (recordsOf t) (take i (t .speeds))) (getD (t .speeds) i noSpeed)))
+          ∙ rw (a .loop .inv .2) (sym (speed-after (speedsBefore (recordsOf t) (take i (t .speeds))) (getD (t .speeds) i noSpeed)))
           ∙ ap standingOf (stands-next (speedPart t) i room),
       sym (left-more (speedPart t) i (omega arith) room
           (fault j ∙ rw (c .before .enum-told .given .1)))

@@ -7,7 +7,7 @@ use Rattle.records.proofs.Faults.{clock-fault}
 use Rattle.records.specs.Faults.{faultSays}
 use Rattle.records.specs.Standing.{standingOf}
 use Rattle.rules.specs.Refusals.{Before, faultOf, nothing}
-use Rattle.rules.specs.TableText.{Record, noRecords}
+use Rattle.rules.specs.TableText.{Record}
 use Rattle.checks.specs.Passing.{jobsPassed, speedsPassed, through}
 use Rattle.checks.proofs.Parts.{passed-stopped, passed-through}
 use Rattle.checks.proofs.Whole.{clock-refused, holds-decide, jobs-refused, jobs-standing, speeds-refused, speeds-standing}
@@ -18,7 +18,7 @@ use Rattle.checks.proofs.check_table.Tie as tie
 -- the judgement of the T is the rules' fault of it
 fault : (c : tie.After-judge-clock)
     → let t = c .before .before .args .table in faultOf nothing (Record.T (t .clock) (t .budget)) ≡ faultSays (c .judge-clock .result)
-unfolding nothing noRecords
+unfolding nothing
 fault c =
     let t = c .before .before .args .table in
     clock-fault nothing (t .clock) (t .budget) ∙ rw (← c .before .none-standing .ensures) (sym (c .judge-clock .ensures))

@@ -6,7 +6,7 @@ use native.Mathlib.Omega.{arith}
 use lib.ListN.{length, drop, length-set}
 use lib.Seq.{drop-length}
 use Rattle.digits.proofs.Left.{all-left, digit-stored, numberLeft}
-use Rattle.laws.proofs.Decimal.{digitsOf-digits}
+use Rattle.grammar.proofs.Decimal.{digitsOf-digits}
 use Rattle.rules.specs.TableText.{digitsOf}
 use borrow.Author.Needs.{needs}
 use Rattle.digits.proofs.fill.Statement.{statement}

@@ -4,8 +4,8 @@ use mathlib.Core.Path.{_≡_}
 use Prim.Native.Nat.{_+_, _-_, _*_, _≤_}
 use native.Mathlib.Omega.{arith}
 use lib.ListN.{length, drop, getD}
-use Rattle.laws.proofs.Decimal.{digitsOf-at-most-20}
-use Rattle.laws.proofs.LineText.{behind-all, behindLetter, length-behind-next, line-behind-letter}
+use Rattle.grammar.proofs.Decimal.{digitsOf-at-most-20}
+use Rattle.grammar.proofs.LineText.{behind-all, behindLetter, length-behind-next, line-behind-letter}
 use borrow.Author.Needs.{needs}
 use Rattle.digits.proofs.line_length.Statement.{statement}
 use Rattle.digits.proofs.line_length.Tie as tie

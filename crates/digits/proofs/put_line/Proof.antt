@@ -5,9 +5,9 @@ use mathlib.Core.List.{[], _∷_}
 use Prim.Native.Nat.{_+_, _-_, _≤_}
 use native.Mathlib.Omega.{arith}
 use lib.ListN.{length, drop, getD, length-set}
-use Rattle.laws.proofs.LineText.{behind-all, behindLetter, length-behind-next, line-behind-letter, put-letter, put-next}
-use Rattle.laws.proofs.Put.{put-byte}
-use Rattle.laws.specs.Put.{put}
+use Rattle.grammar.proofs.LineText.{behind-all, behindLetter, length-behind-next, line-behind-letter, put-letter, put-next}
+use Rattle.grammar.proofs.Put.{put-byte}
+use Rattle.grammar.specs.Put.{put}
 use Rattle.rules.specs.TableText.{digitsOf, lineFeed}
 use borrow.Author.Needs.{needs}
 use Rattle.digits.proofs.put_line.Statement.{statement}

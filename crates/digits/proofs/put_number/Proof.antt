@@ -2,7 +2,7 @@
 -- back as the digits, and the bytes before and behind it stay. Assumes nothing.
 use Prim.Native.Nat.{_+_}
 use native.Mathlib.Omega.{arith}
-use Rattle.laws.proofs.Put.{put-part}
+use Rattle.grammar.proofs.Put.{put-part}
 use Rattle.rules.specs.TableText.{digitsOf}
 use borrow.Author.Needs.{needs}
 use Rattle.digits.proofs.put_number.Statement.{statement}

@@ -47,11 +47,11 @@ use Rattle.rules.proofs.Field as F
 use Rattle.rules.proofs.Field.Laws as F′
 use Rattle.text.specs.Fields.{FieldsTold, takenSays}
 use Rattle.text.specs.declared.Cursor.{Cursor}
-use Rattle.text.specs.declared.Taken.{Taken}
+use Rattle.text.specs.declared.FieldTaken.{FieldTaken}
 use Rattle.text.proofs.Cursor as P
 use Rattle.text.proofs.Cursor.Laws as P′
-use Rattle.text.proofs.Taken as A′
-use Rattle.text.proofs.Taken.Laws as A″
+use Rattle.text.proofs.FieldTaken as A′
+use Rattle.text.proofs.FieldTaken.Laws as A″
 use Rattle.front.specs.Reading.{Moved, Next, Placed, Started, readerAt, takenAt, takenBy}
 use Rattle.front.specs.declared.Kind.{Kind}
 use Rattle.front.specs.declared.Reader.{Reader}
@@ -238,7 +238,7 @@ module _ {M : Type 1} (𝓤 : URA M) (H : Heap 𝓤) (A : Atoms 𝓤) (W : Given
   madeOf w v = vstruct (ofList (w ∷ v ∷ []))
 
   module _ (f : Field) (p : Cursor) (w v : Val) (is-field : Is F.the-row f (w ∷ [])) (is-there : Is P.the-row p (v ∷ [])) where
-    abbrev taken : Taken
+    abbrev taken : FieldTaken
     taken = record { field = f; next = p }
 
     field-same : w ≡ EL.val F.the-type F′.the-laws f

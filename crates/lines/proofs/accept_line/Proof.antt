@@ -7,14 +7,14 @@ use Rattle.lines.proofs.accept_line.Statement.{statement}
 use Rattle.lines.proofs.accept_line.Tie as tie
 use Rattle.lines.proofs.accept_line.Reads as reads
 use Rattle.lines.proofs.accept_line.Lts as lts
-use Rattle.lines.proofs.judge.Reads as judge-reads
+use Rattle.lines.proofs.judge_line.Reads as judge-line-reads
 use Rattle.text.proofs.record_at.Reads as record-at-reads
 
 record-at-requires : tie.Need-record-at-requires
 record-at-requires c κs = search needs
 
-judge-requires : tie.Need-judge-requires
-judge-requires c κs = search needs
+judge-line-requires : tie.Need-judge-line-requires
+judge-line-requires c κs = search needs
 
 enum-known-judgement : tie.Need-enum-known-judgement
 enum-known-judgement c = search needs
@@ -25,14 +25,14 @@ enum-told c = search needs
 returns : tie.Need-returns
 returns c = λ b n.
     let s = c .before .before .before .before .before in
-    let j = c .before .before .judge in
+    let j = c .before .before .judge-line in
     good-line (s .args .text .now) (s .args .place) b (c .before .before .before .record-at .result) (c .before .before .before .record-at .ensures)
     (sym (j .ensures b n) ∙ rw (c .enum-told .given .1))
 
 returns-2 : tie.Need-returns-2
 returns-2 c = λ b n.
     let s = c .before .before .before .before .before .before in
-    let j = c .before .before .before .judge in
+    let j = c .before .before .before .judge-line in
     let g = c .before .judgement .given in
     bad-line (s .args .text .now) (s .args .place) b (c .before .before .before .before .record-at .result) (c .before .before .before .before .record-at .ensures) (g .0 .0)
     (sym (j .ensures b n) ∙ rw (g .1))
@@ -40,4 +40,4 @@ returns-2 c = λ b n.
 pub accept-line-spec : {M : Type 1} → statement M
 accept-line-spec =
     tie.close
-    (tie.spec record-at-requires judge-requires enum-known-judgement enum-told returns returns-2)
+    (tie.spec record-at-requires judge-line-requires enum-known-judgement enum-told returns returns-2)

@@ -2,25 +2,33 @@
 -- wraps. Assumes nothing.
 use mathlib.Core.List.{[], _∷_}
 use native.Mathlib.Omega.{arith}
-use Rattle.laws.proofs.LineText.{length-line}
-use Rattle.listing.proofs.PairLines.{lines-length}
+use Rattle.digits.proofs.Rows.{row-lines-length}
+use Rattle.grammar.proofs.LineText.{length-line}
 use Rattle.listing.proofs.PlanTexts.{length-parts}
+use Rattle.listing.specs.Texts.{rowFields}
 use Rattle.rules.specs.Listing.{letterO, letterP, letterX}
 use borrow.Author.Needs.{needs}
 use Rattle.listing.proofs.listing_length.Statement.{statement}
 use Rattle.listing.proofs.listing_length.Tie as tie
 
-pairs-length-requires : tie.Need-pairs-length-requires
-pairs-length-requires c κs = search needs
+rows-length-requires : tie.Need-rows-length-requires
+rows-length-requires c κs = search needs
 
-pairs-length-requires-2 : tie.Need-pairs-length-requires-2
-pairs-length-requires-2 c κs = search needs
+rows-length-requires-2 : tie.Need-rows-length-requires-2
+rows-length-requires-2 c κs = search needs
 
 add-behind-plan : tie.Need-add-behind-plan
 add-behind-plan c =
-    let args = c .before .before .args in
-    omega
-    (arith, c .before .pairs-length .ensures letterO, lines-length letterO (args .order), c .pairs-length2 .ensures letterX, lines-length letterX (args .rest))
+    let start = c .before .before .before .before in
+    let args = start .args in
+    omega (
+      arith,
+      start .pre,
+      c .before .rows-length .ensures letterO,
+      row-lines-length letterO rowFields (omega arith) (args .orders .now),
+      c .rows-length2 .ensures letterX,
+      row-lines-length letterX rowFields (omega arith) (args .others .now),
+    )
 
 slice-aggregate-line-length : tie.Need-slice-aggregate-line-length
 slice-aggregate-line-length c = search needs
@@ -30,24 +38,38 @@ line-length-requires c κs = search needs
 
 add-result : tie.Need-add-result
 add-result c =
-    let two = c .before .before in
-    let args = two .before .before .args in
-    omega
-    (arith, two .before .pairs-length .ensures letterO, lines-length letterO (args .order), two .pairs-length2 .ensures letterX, lines-length letterX (args .rest), c .line-length .ensures letterP, length-line letterP (args .speed ∷ args .energy ∷ args .count ∷ []))
+    let rows = c .before .before in
+    let start = rows .before .before .before .before in
+    let args = start .args in
+    omega (
+      arith,
+      start .pre,
+      rows .before .rows-length .ensures letterO,
+      row-lines-length letterO rowFields (omega arith) (args .orders .now),
+      rows .rows-length2 .ensures letterX,
+      row-lines-length letterX rowFields (omega arith) (args .others .now),
+      c .line-length .ensures letterP,
+      length-line letterP (args .speed ∷ args .energy ∷ args .count ∷ []),
+    )
 
 returns : tie.Need-returns
 returns c =
-    let two = c .before .before in
-    let args = two .before .before .args in
-    omega
-    (arith, two .before .pairs-length .ensures letterO, two .pairs-length2 .ensures letterX, c .line-length .ensures letterP, length-parts (args .speed) (args .energy) (args .count) (args .order) (args .rest))
+    let rows = c .before .before in
+    let args = rows .before .before .before .before .args in
+    omega (
+      arith,
+      rows .before .rows-length .ensures letterO,
+      rows .rows-length2 .ensures letterX,
+      c .line-length .ensures letterP,
+      length-parts (args .speed) (args .energy) (args .count) (args .orders .now) (args .others .now),
+    )
 
 pub listing-length-spec : {M : Type 1} → statement M
 listing-length-spec =
     tie.close
     (tie.spec
-    pairs-length-requires
-    pairs-length-requires-2
+    rows-length-requires
+    rows-length-requires-2
     add-behind-plan
     slice-aggregate-line-length
     line-length-requires

@@ -11,29 +11,41 @@ slice-aggregate-put-line c = search needs
 
 put-line-requires : tie.Need-put-line-requires
 put-line-requires c κs =
-    let s = c .before .before .before in
+    let s = c .before .before .before .before .before in
     let args = s .args in
-    omega (arith, s .pre .2, length-parts (args .speed) (args .energy) (args .count) (args .order) (args .rest))
+    omega (arith, s .pre, length-parts (args .speed) (args .energy) (args .count) (args .orders .now) (args .others .now))
 
-put-pairs-requires : tie.Need-put-pairs-requires
-put-pairs-requires c κs =
+put-rows-requires : tie.Need-put-rows-requires
+put-rows-requires c κs =
     let line = c .before .before .before in
-    let s = line .before .before .before .before in
+    let s = line .before .before .before .before .before .before in
     let args = s .args in (
-      omega (arith, s .pre .0),
-      omega
-          (arith, s .pre .2, line .put-line .ensures .0, line .put-line .kept .0, length-parts (args .speed) (args .energy) (args .count) (args .order) (args .rest)),
+      omega arith,
+      omega (
+        arith,
+        s .pre,
+        line .put-line .ensures .0,
+        line .put-line .kept .0,
+        length-parts (args .speed) (args .energy) (args .count) (args .orders .now) (args .others .now),
+      ),
     )
 
-put-pairs-requires-2 : tie.Need-put-pairs-requires-2
-put-pairs-requires-2 c κs =
-    let order = c .before .before .before in
-    let line = order .before .before .before .before in
-    let s = line .before .before .before .before in
+put-rows-requires-2 : tie.Need-put-rows-requires-2
+put-rows-requires-2 c κs =
+    let orders = c .before .before .before in
+    let line = orders .before .before .before .before in
+    let s = line .before .before .before .before .before .before in
     let args = s .args in (
-      omega (arith, s .pre .1),
-      omega
-          (arith, s .pre .2, line .put-line .ensures .0, line .put-line .kept .0, order .put-pairs .ensures .0, order .put-pairs .kept .0, length-parts (args .speed) (args .energy) (args .count) (args .order) (args .rest)),
+      omega arith,
+      omega (
+        arith,
+        s .pre,
+        line .put-line .ensures .0,
+        line .put-line .kept .0,
+        orders .put-rows .ensures .0,
+        orders .put-rows .kept .0,
+        length-parts (args .speed) (args .energy) (args .count) (args .orders .now) (args .others .now),
+      ),
     )
 
 same-length : tie.Need-same-length
@@ -41,17 +53,22 @@ same-length c = search needs
 
 returns : tie.Need-returns
 returns c =
-    let rest = c .before .before in
-    let order = rest .before .before .before .before in
-    let line = order .before .before .before .before in
-    let s = line .before .before .before .before in
+    let others = c .before .before in
+    let orders = others .before .before .before .before in
+    let line = orders .before .before .before .before in
+    let s = line .before .before .before .before .before .before in
     let args = s .args in (
-      omega
-          (arith, line .put-line .ensures .0, order .put-pairs .ensures .0, rest .put-pairs2 .ensures .0, length-parts (args .speed) (args .energy) (args .count) (args .order) (args .rest)),
-      parts-at-front (args .speed) (args .energy) (args .count) (args .order) (args .rest) (args .out .now)
-          (line .put-line .last .0) (order .put-pairs .last .0) (rest .put-pairs2 .last .0) (line .put-line .result)
-          (order .put-pairs .result) (line .put-line .ensures .0) (line .put-line .ensures .1) (order .put-pairs .ensures .0)
-          (order .put-pairs .ensures .1) (rest .put-pairs2 .ensures .1),
+      omega (
+        arith,
+        line .put-line .ensures .0,
+        orders .put-rows .ensures .0,
+        others .put-rows2 .ensures .0,
+        length-parts (args .speed) (args .energy) (args .count) (args .orders .now) (args .others .now),
+      ),
+      parts-at-front (args .speed) (args .energy) (args .count) (args .orders .now) (args .others .now) (args .out .now)
+          (line .put-line .last .0) (orders .put-rows .last .0) (others .put-rows2 .last .0) (line .put-line .result)
+          (orders .put-rows .result) (line .put-line .ensures .0) (line .put-line .ensures .1) (orders .put-rows .ensures .0)
+          (orders .put-rows .ensures .1) (others .put-rows2 .ensures .1),
     )
 
 pub put-listing-spec : {M : Type 1} → statement M
@@ -60,7 +77,7 @@ put-listing-spec =
     (tie.spec
     slice-aggregate-put-line
     put-line-requires
-    put-pairs-requires
-    put-pairs-requires-2
+    put-rows-requires
+    put-rows-requires-2
     same-length
     returns)

@@ -49,7 +49,7 @@ use Rattle.handing.proofs.hand_back.Symbol as hand-back-def
 use Rattle.handing.proofs.hand_back.Symbol.{name as #handing·hand-back}
 use Rattle.lending.proofs.Again.{LentAgain, comes-back, lends-again}
 use Rattle.lending.proofs.Steps.{borrows, copied, lets-go, slice-fits}
-use Rattle.planner.proofs.Answers.{Decided, Handed, planned-as}
+use Rattle.planner.proofs.Answers.{IntoLeaves, Handed, plan-promised}
 use Rattle.planner.proofs.Planned as T
 use Rattle.planner.proofs.Planned.Laws as T′
 use Rattle.planner.proofs.Walks.{Slices, all-go, asked, machine, owned, spelled, stayed, tokens, told, values}
@@ -66,6 +66,7 @@ use Rattle.planner.specs.declared.Planned.{Planned}
 use Rattle.rules.proofs.Decision as S
 use Rattle.rules.proofs.Decision.Laws as S′
 use Rattle.rules.specs.declared.Decision.{Decision}
+use Rattle.rules.specs.Refusals.{read}
 
 -- the lists that `plan_into` leaves in its three slices: nothing is said of the text
 abbrev Left : Type 0
@@ -142,7 +143,7 @@ module _ {M : Type 1} (𝓤 : URA M) (H : Heap 𝓤) (A : Atoms 𝓤) (W : Given
 
   -- the return: the tokens, the struct of the part and the decision, and what says the last list of the fate buffer
   exits : (d : Decision) (gs : List ℕ) (part : RefT (List ℕ)) → Is S.the-row d (decides d ∷ [])
-      → PlannedAs (t .now) ys (f .now) (b, o) (planned part d) gs → length gs ≡ length (f .now)
+      → PlannedAs (read (t .now)) ys (f .now) (b, o) (planned part d) gs → length gs ≡ length (f .now)
       → ent 𝓤 (⋆ 𝓤 H A ((‵ (flft κo qo) ⊛ ‵ ftrue) ∷ ‵ (flft κt qt) ∷ (‵ (flft κf qf) ⊛ ‵ ftrue)
       ∷ ‵ (MutSlice (named 0) κo u64 .own part (machine part ∷ [])) ∷ ‵ (finally u64 (f .name) gs) ∷ []))
       (Post (answers part d))
@@ -208,9 +209,9 @@ module _ {M : Type 1} (𝓤 : URA M) (H : Heap 𝓤) (A : Atoms 𝓤) (W : Given
         (id⊢ 𝓤 _) $ await ! tt $ pick ! (λ d. split ! $ move ! (1 ∷ [])
         -- what `plan_into` ensures, at the lists that it left
         $ use1 W (some (λ (ls : Left). ‵ (lasts plan-into.ended (κs (ν ∷ [])) (slices δ) ls)
-        ⊛ raw (fact 𝓤 (Decided (t .now) ys (f .now) d (ls .1 .0) (ls .1 .1 .0))))) (id⊢ 𝓤 _)
+        ⊛ raw (fact 𝓤 (IntoLeaves (read (t .now)) ys (f .now) d (ls .1 .0) (ls .1 .1 .0))))) (id⊢ 𝓤 _)
         $ pick ! (λ ls. split ! $ move ! (1 ∷ [])
-        $ heard ! (Decided (t .now) ys (f .now) d (ls .1 .0) (ls .1 .1 .0)) (λ decided. fsplit3 ! $ move ! (1 ∷ [])
+        $ heard ! (IntoLeaves (read (t .now)) ys (f .now) d (ls .1 .0) (ls .1 .1 .0)) (λ decided. fsplit3 ! $ move ! (1 ∷ [])
         $ fsplit ! $ move ! (1 ∷ []) $ feqL ! (λ as-long-o. move ! (2 ∷ []) $ fsplit ! $ fsplit ! $ move ! (1 ∷ [])
         $ feqL ! (λ as-long-f. move ! (4 ∷ []) $ split ! $ move ! (1 ∷ [])
         $ peeks ! S.the-row (Is S.the-row) (shows 𝓤 H A S.the-row) d (w ∷ []) (λ is-w.
@@ -252,7 +253,7 @@ module _ {M : Type 1} (𝓤 : URA M) (H : Heap 𝓤) (A : Atoms 𝓤) (W : Given
         $ lets-go ! 22 refl refl $ lets-go ! 20 refl refl $ lets-go ! 18 refl refl $ lets-go ! 16 refl refl
         $ lets-go ! 14 refl refl $ lets-go ! 12 refl refl $ lets-go ! 10 refl refl $ lets-go ! 8 refl refl $ free0 !
         $ keep ! (1 ∷ 2 ∷ 3 ∷ 0 ∷ 5 ∷ [])
-        $ by ! (exits d (ls .1 .1 .0) part is (planned-as (t .now) ys (f .now) (ls .1 .0) (ls .1 .1 .0) (b, o) d part
+        $ by ! (exits d (ls .1 .1 .0) part is (plan-promised (read (t .now)) ys (f .now) (ls .1 .0) (ls .1 .1 .0) (b, o) d part
         decided handed) as-long-f))))))))))))))))))))))))))
 
 module _ {M : Type 1} (𝓤 : URA M) (H : Heap 𝓤) (A : Atoms 𝓤) (W : Given 𝓤 H A) (mem : Memory → SProp 𝓤)

@@ -1,7 +1,7 @@
 -- `planner::plan_into` meets its contract: the buffers' room first, then the text, then its plan. A table that was read is
 -- valid, so that it can be planned. Assumes nothing.
 use mathlib.Core.Path.{_≡_}
-use Rattle.planner.proofs.Decisions.{no-fate-room, no-order-room, room, text-planned, text-refused, too-small}
+use Rattle.planner.proofs.Decisions.{no-fate-room, no-order-room, room, taken-planned, taken-refused, too-small}
 use Rattle.plans.proofs.Readings.{reading-done, reading-refused}
 use Rattle.plans.specs.Promises.{Plannable}
 use Rattle.rules.specs.Refusals.{read, taken}
@@ -21,12 +21,12 @@ read-it c =
 returns : tie.Need-returns
 returns c =
     let args = c .before .before .before .before .args in
-    no-order-room (args .text .now) (args .order .now) (args .fates .now) (too-small (args .order .now) (c .if1 .taken))
+    no-order-room (read (args .text .now)) (args .order .now) (args .fates .now) (too-small (args .order .now) (c .if1 .taken))
 
 returns-2 : tie.Need-returns-2
 returns-2 c =
     let args = c .before .before .before .before .before .args in
-    no-fate-room (args .text .now) (args .order .now) (args .fates .now) (too-small (args .fates .now) (c .if2 .taken))
+    no-fate-room (read (args .text .now)) (args .order .now) (args .fates .now) (too-small (args .fates .now) (c .if2 .taken))
 
 read-requires : tie.Need-read-requires
 read-requires c κs = search needs
@@ -39,7 +39,7 @@ returns-3 c =
     let done = c .before .before .before in
     let args = done .before .before .before .before .before .before .args in
     let told = c .before .verdict .given in
-    text-refused (args .text .now) (args .order .now) (args .fates .now) (room (args .order .now) (done .before .before .if1 .left))
+    taken-refused (read (args .text .now)) (args .order .now) (args .fates .now) (room (args .order .now) (done .before .before .if1 .left))
     (room (args .fates .now) (done .before .if2 .left)) (told .0 .0) (told .0 .1 .0)
     (reading-refused (args .text .now) (done .read .result) (told .0 .0) (told .0 .1 .0) (done .read .ensures) (told .1))
 
@@ -61,7 +61,7 @@ returns-4 : tie.Need-returns-4
 returns-4 c =
     let done = c .before .before .before .before .before .before .before .before .before .before in
     let args = done .before .before .before .before .before .before .args in
-    text-planned (args .text .now) (args .order .now) (args .fates .now) (room (args .order .now) (done .before .before .if1 .left))
+    taken-planned (read (args .text .now)) (args .order .now) (args .fates .now) (room (args .order .now) (done .before .before .if1 .left))
     (room (args .fates .now) (done .before .if2 .left)) (recordsOf (done .read .result .table)) (c .before .before .before .before .plan-table .result)
     (c .before .before .before .before .plan-table .last .1 .0) (c .before .before .before .before .plan-table .last .1 .1 .0) (read-it (c .before .before .before .before .before .before .before .before) .0)
     (c .before .before .before .before .plan-table .ensures)

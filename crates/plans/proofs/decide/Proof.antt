@@ -39,6 +39,10 @@ mul-top c = omega (arith, speeds-there c, c .pre .0 .few-speeds)
 element-copy-out-top : tie.Need-element-copy-out-top
 element-copy-out-top c = omega (arith, speeds-there c, c .pre .0 .few-speeds)
 
+-- what stood before the course
+abbrev started : tie.After-course-of → tie.Start
+started c = c .before .before .before .before .before .before .before .before .before .before
+
 course-of-requires : tie.Need-course-of-requires
 course-of-requires c κs =
     let start = c .before .before .before .before .before .before .before .before .before in
@@ -46,28 +50,26 @@ course-of-requires c κs =
 
 conclude-requires : tie.Need-conclude-requires
 conclude-requires c κs =
-    let start = c .before .before .before .before .before .before .before .before .before .before .before .before .before .before in
-    let ran = c .before .before .before .before .course-of in
-    table-concludable (start .args .t1) (start .pre .0) (all-speeds start) (start .args .t2) (start .pre .1) (ran .result)
-    (ran .ensures .placed)
+    let ran = c .before .before .before .before in
+    let start = started ran in
+    table-concludable (start .args .t1) (start .pre .0) (all-speeds start) (start .args .t2) (start .pre .1)
+    (ran .course-of .result) (ran .course-of .ensures .placed)
 
 returns : tie.Need-returns
 returns c =
-    let start = c .before .before .before .before .before .before .before .before .before .before .before .before .before .before .before in
+    let ran = c .before .before .before .before .before in
+    let start = started ran in
     let table = start .args .t1 in
-    let of = start .pre .1 in
-    let ran = c .before .before .before .before .before .course-of in
+    let valid = start .pre .0 .valid in
+    let columns = start .pre .1 in
     let terms = terms-of-table table (start .pre .0) (all-speeds start) (all-jobs start) in
-    c .conclude .ensures .decided (recordsOf table) (start .pre .0 .valid) terms (speeds-of table) (of .cycles)
-    (of .termination)
-    (ran .ensures .course (recordsOf table) (start .pre .0 .valid) terms (holds-of table) (record {
-      number = of .number;
-      cycles = of .cycles;
-      worth = of .worth;
-      critical = of .critical;
-      termination = of .termination;
-      request = of .request;
-    }))
+    c .conclude .ensures .decided (recordsOf table) valid
+    (record {
+      terms-of = terms;
+      runs-of = record { cycles-of = columns .cycles; termination-of = columns .termination };
+      speeds-of = speeds-of table;
+    })
+    (ran .course-of .ensures .course (recordsOf table) valid terms (holds-of table) columns)
 
 pub decide-spec : {M : Type 1} → statement M
 decide-spec =

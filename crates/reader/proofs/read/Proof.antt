@@ -17,7 +17,7 @@ use Rattle.text.specs.declared.Parsed.{Parsed}
 use Rattle.lines.specs.Step.{LineAccepted, afterParsed, countOf}
 use Rattle.reader.proofs.Ends.{all-read, at-start, no-speed, refused-line}
 use Rattle.reader.proofs.OneMore.{clock-more, hold-more, hold-room, job-more, job-room, speed-more, speed-room}
-use Rattle.reader.proofs.SoFar.{SoFar, begunWith, fits, goes-on}
+use Rattle.reader.proofs.SoFar.{SoFar, standsWith, fits, goes-on}
 use borrow.Author.Needs.{needs}
 use Rattle.reader.proofs.read.Statement.{statement}
 use Rattle.reader.proofs.read.Tie as tie
@@ -40,8 +40,8 @@ inside : (c : Judged-line) → c .before .before .before .before .before .before
 inside c = c .before .before .before .before .before .before .if1 .taken
 
 line : (c : Judged-line) → let l = c .before .before .before .before .before .before .before .before .loop in
-    LineAccepted (text-of c) (l .place) (begunWith (l .before) (l .inv .records)) (c .before .before .before .accept-line .result)
-line c = let l = c .before .before .before .before .before .before .before .before .loop in c .before .before .before .accept-line .ensures (begunWith (l .before) (l .inv .records)) (l .inv .noted)
+    LineAccepted (text-of c) (l .place) (standsWith (l .before) (l .inv .records)) (c .before .before .before .accept-line .result)
+line c = let l = c .before .before .before .before .before .before .before .before .loop in c .before .before .before .accept-line .ensures (standsWith (l .before) (l .inv .records)) (l .inv .noted)
 
 abbrev parsed-of : Judged-line → Parsed
 parsed-of k = k .before .before .before .accept-line .result .parsed
@@ -59,8 +59,8 @@ counted : (k : Judged-line) (p : Parsed) → parsed-of k ≡ p
 counted k p e = k .before .before .count-of .ensures ∙ ap (countOf (k .before .before .before .before .before .before .before .before .loop .before)) e
 
 stood : (k : Judged-line) (p : Parsed) → parsed-of k ≡ p
-    → k .before .after .result ≡ afterParsed (k .before .before .before .before .before .before .before .before .loop .before) p
-stood k p e = k .before .after .ensures ∙ ap (afterParsed (k .before .before .before .before .before .before .before .before .loop .before)) e
+    → k .before .standing-after .result ≡ afterParsed (k .before .before .before .before .before .before .before .before .loop .before) p
+stood k p e = k .before .standing-after .ensures ∙ ap (afterParsed (k .before .before .before .before .before .before .before .before .loop .before)) e
 
 -- its record has a place
 speed-place : (k : Judged-line) (f : Speed) → parsed-of k ≡ Parsed.Speed f → k .before .before .count-of .result < mostSpeeds
@@ -95,8 +95,8 @@ accept-line-requires c κs =
 count-of-requires : tie.Need-count-of-requires Inv-loop μ-loop
 count-of-requires c κs = search needs
 
-after-requires : tie.Need-after-requires Inv-loop μ-loop
-after-requires c κs =
+standing-after-requires : tie.Need-standing-after-requires Inv-loop μ-loop
+standing-after-requires c κs =
     let l = c .before .before .before .before .before .before .loop in
     let f = fits (l .inv .reached) in
     rw (l .inv .noted .state) (f .speeds, f .jobs, f .holds)
@@ -237,7 +237,7 @@ read-spec =
     loop-holds
     accept-line-requires
     count-of-requires
-    after-requires
+    standing-after-requires
     enum-known-parsed
     loop-less
     loop-again

@@ -8,7 +8,7 @@ use native.Mathlib.Omega.{arith}
 use borrow.Author.Needs.{needs}
 use lib.ListN.{getD}
 use Rattle.chains.specs.Stage.{fateIfLate}
-use Rattle.columns.specs.Columns.{Column, TermsOf}
+use Rattle.columns.specs.Columns.{RunsOf, TermsOf}
 use Rattle.columns.specs.declared.Terms.{Terms}
 use Rattle.remaining.proofs.FilledTo.{FilledTo, RightBelow, filled-below, nothing-filled, one-more-filled}
 use Rattle.remaining.proofs.late_fates.Statement.{statement}
@@ -23,19 +23,17 @@ LateFate cycles termination terms place fate =
     fate ≡ cond (not (endsBy (terms .clock) (terms .mhz) (getD cycles place 0) (getD termination place 0))) fateLate 0
 
 module _ (cycles termination : List ℕ) (terms : Terms) where
-  read-from-columns : (t : Records) → TermsOf t terms → Column (λ j. j .cycles) (t .jobs) cycles
-      → Column (λ j. j .termination) (t .jobs) termination → (place fate : ℕ)
+  read-from-columns : (t : Records) → TermsOf t terms → RunsOf (t .jobs) cycles termination → (place fate : ℕ)
       → LateFate cycles termination terms place fate → fate ≡ fateIfLate t (getD (t .jobs) place noJob)
   unfolding fateIfLate lateIn
-  read-from-columns t terms-of cycles-of termination-of place fate e =
-      e ∙ rw (cycles-of place, termination-of place, terms-of .clock, terms-of .mhz)
+  read-from-columns t terms-of runs place fate e =
+      e ∙ rw (runs .cycles-of place, runs .termination-of place, terms-of .clock, terms-of .mhz)
 
   all-late-fates : (fates : List ℕ) → RightBelow (LateFate cycles termination terms) (terms .«job_count») fates
       → LateFates cycles termination terms fates
   all-late-fates fates right = record {
-    late = λ t terms-of cycles-of termination-of i l.
-        read-from-columns t terms-of cycles-of termination-of i (getD fates i 0)
-        (right i (omega (arith, terms-of .job-count)));
+    late = λ t terms-of runs i l.
+        read-from-columns t terms-of runs i (getD fates i 0) (right i (omega (arith, terms-of .job-count)));
   }
 
 abbrev Inv-loop : tie.InvT-loop
@@ -65,10 +63,10 @@ fate-if-late-requires c κs =
     let start = c .before .before .before .before in
     let i = c .before .before .before .loop .i in
     record {
-      clock-small = start .pre .clock-small;
-      mhz-small = start .pre .mhz-small;
-      cycles-small = omega (arith, start .pre .cycles-small i);
-      termination-small = start .pre .termination-small i;
+      clock-small = start .pre .1 .clock;
+      mhz-small = start .pre .1 .mhz;
+      cycles-small = omega (arith, start .pre .0 .cycles-small i);
+      termination-small = start .pre .0 .termination-small i;
     }
 
 mul-fates : tie.Need-mul-fates Inv-loop μ-loop

@@ -4,11 +4,10 @@ use Prim.Native.Nat.{ℕ, _*_, _≤_}
 use native.Mathlib.Nat.{mul-le-mul}
 use native.Mathlib.Omega.{arith}
 use borrow.Author.Needs.{needs}
-use Rattle.rules.specs.TableText.{mostCycles, mostJobs}
+use Rattle.rules.specs.TableText.{mostCost, mostCycles, mostJobs}
 use Rattle.trials.proofs.Judged.{judged-by-tests}
 use Rattle.trials.proofs.judge.Statement.{statement}
 use Rattle.trials.proofs.judge.Tie as tie
-use Rattle.trials.specs.Promises.{mostCost}
 
 small : {sum cost : ℕ} → sum ≤ mostCycles * mostJobs → cost ≤ mostCost → sum * cost ≤ mostCycles * mostJobs * mostCost
 small h l = mul-le-mul h l
@@ -23,8 +22,8 @@ mul-energy : tie.Need-mul-energy
 mul-energy c =
     let sum = c .before .total-cycles in
     let start = c .before .before .before .before in
-    let few : sum .result ≤ mostCycles * mostJobs = omega (arith, sum .ensures .at-most, start .pre .summable .few) in
-    omega (arith, small few (start .pre .cost-small))
+    let few : sum .result ≤ mostCycles * mostJobs = omega (arith, sum .ensures .at-most, start .pre .job-places .few) in
+    omega (arith, small few (start .pre .terms-small .cost))
 
 fate-by-requires : tie.Need-fate-by-requires
 fate-by-requires c κs = search needs

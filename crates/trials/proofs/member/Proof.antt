@@ -5,14 +5,18 @@ use mathlib.Core.Path.{_≡_, sym}
 use Prim.Native.Nat.{_<_}
 use native.Mathlib.Omega.{arith}
 use borrow.Author.Needs.{needs}
-use lib.ListN.{length, take}
+use lib.ListN.{length}
 use Rattle.trials.proofs.Members.{at-inside, member-inserted, member-kept, member-moved}
 use Rattle.trials.proofs.Once.{length-planned, room-behind, room-inside}
 use Rattle.trials.proofs.member.Statement.{statement}
 use Rattle.trials.proofs.member.Tie as tie
+use Rattle.trials.specs.Promises.{TrialParts, trialParts, plannedPlaces}
 
-planned-long : (c : tie.Start) → length (take (c .args .from .count) (c .args .places .now)) ≡ c .args .from .count
-planned-long c = length-planned (c .args .from .count) (c .args .places .now) (c .args .keys .now) (c .pre .standing)
+abbrev before : tie.Start → TrialParts
+before c = trialParts (c .args .from) (c .args .places .now) (c .args .keys .now)
+
+planned-long : (c : tie.Start) → length (plannedPlaces (before c .plan)) ≡ c .args .from .totals .count
+planned-long c = length-planned (before c .plan) (c .pre .0 .standing)
 
 mul-key : tie.Need-mul-key
 mul-key c = search needs
@@ -22,38 +26,34 @@ element-copy-out-key c = search needs
 
 returns : tie.Need-returns
 returns c =
-    let start = c .before .before .before in
-    let args = start .args in
-    member-kept (args .from) (args .place) (args .critical) (args .places .now) (args .keys .now) (start .pre)
-    (c .if1 .taken)
+    let start = c .before .before .before .before in
+    member-kept (before start) (start .args .place) (start .args .critical) (start .pre .0) (start .pre .1) (c .if1 .taken)
 
 slice-reshare-prefix-index-of : tie.Need-slice-reshare-prefix-index-of
 slice-reshare-prefix-index-of c = search needs
 
 slice-aggregate-index-of : tie.Need-slice-aggregate-index-of
-slice-aggregate-index-of c = sym (planned-long (c .before .before .before .before .before))
+slice-aggregate-index-of c = sym (planned-long (c .before .before .before .before .before .before))
 
 index-of-requires : tie.Need-index-of-requires
 index-of-requires c κs =
-    let start = c .before .before .before .before .before in
-    (omega (arith, planned-long start, start .pre .near-inside), start .pre .standing .once)
+    let start = c .before .before .before .before .before .before in
+    (omega (arith, planned-long start, start .pre .0 .near-inside), start .pre .0 .standing .once)
 
 index-inside : (c : tie.After-index-of)
-    → c .index-of .result < c .before .before .before .before .before .before .args .from .count
+    → c .index-of .result < c .before .before .before .before .before .before .before .args .from .totals .count
 index-inside c =
     let is-planned = c .before .before in
-    let start = is-planned .before .before .before .before in
-    let args = start .args in
-    at-inside (args .from) (args .place) (args .critical) (args .places .now) (args .keys .now) (start .pre)
+    let start = is-planned .before .before .before .before .before in
+    at-inside (before start) (start .args .place) (start .args .critical) (start .pre .0) (start .pre .1)
     (is-planned .before .if1 .left) (omega arith) (c .index-of .result) (c .index-of .ensures)
 
 insert-requires : tie.Need-insert-requires
 insert-requires c κs =
     let found = c .before .before in
-    let start = found .before .before .before .before .before .before in
-    let args = start .args in
-    room-inside (args .from .count) (args .places .now) (args .keys .now) (start .pre .standing)
-    (found .index-of .result) (args .place) (index-inside found) (start .pre .place-below)
+    let start = found .before .before .before .before .before .before .before in
+    room-inside (before start .plan) (start .pre .0 .standing) (found .index-of .result) (start .args .place)
+    (index-inside found) (start .pre .1)
 
 same-length : tie.Need-same-length
 same-length c = search needs
@@ -63,9 +63,8 @@ returns-2 c =
     let inserted = c .before .before in
     let found = inserted .before .before .before in
     let is-planned = found .before .before in
-    let start = is-planned .before .before .before .before in
-    let args = start .args in
-    member-moved (args .from) (args .place) (args .critical) (args .places .now) (args .keys .now) (start .pre)
+    let start = is-planned .before .before .before .before .before in
+    member-moved (before start) (start .args .place) (start .args .critical) (start .pre .0) (start .pre .1)
     (is-planned .before .if1 .left) (omega arith) (found .index-of .result) (found .index-of .ensures) _ _
     (inserted .insert .ensures)
 
@@ -75,13 +74,11 @@ lower-requires c κs = search needs
 insert-requires-2 : tie.Need-insert-requires-2
 insert-requires-2 c κs =
     let new = c .before .before .before in
-    let start = new .before .before .before .before in
-    let args = start .args in
-    room-behind (args .from .count) (args .places .now) (args .keys .now) (start .pre .standing) (args .place)
-    (start .pre .place-below) (new .if2 .left)
+    let start = new .before .before .before .before .before in
+    room-behind (before start .plan) (start .pre .0 .standing) (start .args .place) (start .pre .1) (new .if2 .left)
 
-add-t12 : tie.Need-add-t12
-add-t12 c = search needs
+add-t13 : tie.Need-add-t13
+add-t13 c = search needs
 
 same-length-2 : tie.Need-same-length-2
 same-length-2 c = search needs
@@ -91,9 +88,8 @@ returns-3 c =
     let inserted = c .before .before in
     let lowered = inserted .before .before .before in
     let new = lowered .before in
-    let start = new .before .before .before .before in
-    let args = start .args in
-    member-inserted (args .from) (args .place) (args .critical) (args .places .now) (args .keys .now) (start .pre)
+    let start = new .before .before .before .before .before in
+    member-inserted (before start) (start .args .place) (start .args .critical) (start .pre .0) (start .pre .1)
     (new .if2 .left) (lowered .lower .result) _ _ (lowered .lower .ensures) (inserted .insert2 .ensures)
 
 pub member-spec : {M : Type 1} → statement M
@@ -111,6 +107,6 @@ member-spec =
     returns-2
     lower-requires
     insert-requires-2
-    add-t12
+    add-t13
     same-length-2
     returns-3)

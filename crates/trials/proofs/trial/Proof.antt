@@ -9,13 +9,18 @@ use Rattle.trials.proofs.Once.{room-behind}
 use Rattle.trials.proofs.Walked.{Walked, over-after-all, over-at-nobody, trial-made, walk-begun, walk-goes-on}
 use Rattle.trials.proofs.trial.Statement.{statement}
 use Rattle.trials.proofs.trial.Tie as tie
+use Rattle.trials.specs.Promises.{PlanParts, planParts, trialParts}
 
 abbrev Inv-loop : tie.InvT-loop
-Inv-loop places₀ keys₀ count place waits critical limit so-far₀ at₀ i₀ places keys so-far at i =
-    (i ≤ mostHolds) × Walked waits critical places₀ keys₀ so-far₀ at₀ places keys so-far at (mostHolds - i)
+Inv-loop places₀ keys₀ place waits critical count limit so-far₀ at₀ i₀ places keys so-far at i =
+    (i ≤ mostHolds)
+    × Walked waits critical (trialParts so-far₀ places₀ keys₀) at₀ (trialParts so-far places keys) at (mostHolds - i)
 
 abbrev μ-loop : tie.MeasureT-loop
-μ-loop places₀ keys₀ count place waits critical limit so-far₀ at₀ i₀ places keys so-far at i = mostHolds - i
+μ-loop places₀ keys₀ place waits critical count limit so-far₀ at₀ i₀ places keys so-far at i = mostHolds - i
+
+abbrev before : tie.Start Inv-loop μ-loop → PlanParts
+before c = planParts (c .args .totals) (c .args .places .now) (c .args .keys .now)
 
 mul-limit : tie.Need-mul-limit Inv-loop μ-loop
 mul-limit c = search needs
@@ -26,9 +31,8 @@ element-copy-out-limit c = search needs
 insert-requires : tie.Need-insert-requires Inv-loop μ-loop
 insert-requires c κs =
     let start = c .before .before .before .before in
-    let args = start .args in
-    room-behind (args .count) (args .places .now) (args .keys .now) (start .pre .standing) (args .place)
-    (start .pre .place-below) (start .pre .not-planned)
+    room-behind (before start) (start .pre .standing) (start .args .place) (start .pre .place-below)
+    (start .pre .not-planned)
 
 add-at : tie.Need-add-at Inv-loop μ-loop
 add-at c = search needs
@@ -45,8 +49,8 @@ loop-holds c =
     let start = inserted .before .before .before .before .before in
     let args = start .args in (
       omega arith,
-      walk-begun (args .count) (args .place) (args .waits .now) (args .critical .now) (args .places .now) (args .keys .now)
-          (start .pre) _ _ (inserted .insert .ensures),
+      walk-begun (before start) (args .place) (args .waits .now) (args .critical .now) (start .pre) _ _
+          (inserted .insert .ensures),
     )
 
 same-length : tie.Need-same-length Inv-loop μ-loop
@@ -54,13 +58,13 @@ same-length c = search needs
 
 returns : tie.Need-returns Inv-loop μ-loop
 returns c =
-    let loop = c .before .before .loop in
-    let inserted = c .before .before .before .before .before .before in
+    let loop = c .before .before .before .loop in
+    let inserted = c .before .before .before .before .before .before .before in
     let start = inserted .before .before .before .before .before in
     let args = start .args in
-    trial-made (args .count) (args .place) (args .waits .now) (args .critical .now) (args .places .now) (args .keys .now)
-    (start .pre) _ _ (inserted .insert .ensures) (loop .places) (loop .keys) (loop .so-far) (loop .at) (mostHolds - loop .i)
-    (loop .inv .1) (over-at-nobody (args .waits .now) (mostHolds - loop .i) (loop .at) (c .if1 .taken))
+    trial-made (before start) (args .place) (args .waits .now) (args .critical .now) (start .pre) _ _
+    (inserted .insert .ensures) (trialParts (loop .so-far) (loop .places) (loop .keys)) (loop .at) (mostHolds - loop .i)
+    (loop .inv .1) (over-at-nobody (args .waits .now) (mostHolds - loop .i) (loop .at) (c .before .if1 .taken))
 
 mul-member : tie.Need-mul-member Inv-loop μ-loop
 mul-member c = search needs
@@ -88,8 +92,8 @@ loop-again c =
     let stepped = c .before .before .before .member in
     let loop = c .before .before .before .before .before .before .before .before .before .loop in (
       omega arith,
-      walk-goes-on _ _ _ _ _ _ (loop .places) (loop .keys) (loop .so-far) (loop .at) (mostHolds - loop .i) (loop .inv .1)
-          _ _ (stepped .result) (mostHolds - (loop .i + 1)) (omega arith) (omega arith) (stepped .ensures),
+      walk-goes-on _ _ _ _ (trialParts (loop .so-far) (loop .places) (loop .keys)) (loop .at) (mostHolds - loop .i)
+          (loop .inv .1) _ (mostHolds - (loop .i + 1)) (omega arith) (omega arith) (stepped .ensures),
     )
 
 same-length-2 : tie.Need-same-length-2 Inv-loop μ-loop
@@ -97,12 +101,12 @@ same-length-2 c = search needs
 
 returns-2 : tie.Need-returns-2 Inv-loop μ-loop
 returns-2 c =
-    let loop = c .before .loop in
-    let inserted = c .before .before .before .before .before in
+    let loop = c .before .before .loop in
+    let inserted = c .before .before .before .before .before .before in
     let start = inserted .before .before .before .before .before in
     let args = start .args in
-    trial-made (args .count) (args .place) (args .waits .now) (args .critical .now) (args .places .now) (args .keys .now)
-    (start .pre) _ _ (inserted .insert .ensures) (loop .places) (loop .keys) (loop .so-far) (loop .at) (mostHolds - loop .i)
+    trial-made (before start) (args .place) (args .waits .now) (args .critical .now) (start .pre) _ _
+    (inserted .insert .ensures) (trialParts (loop .so-far) (loop .places) (loop .keys)) (loop .at) (mostHolds - loop .i)
     (loop .inv .1) (over-after-all (args .waits .now) (mostHolds - loop .i) (loop .at) (omega arith))
 
 pub trial-spec : {M : Type 1} → statement M

@@ -1,112 +1,189 @@
--- `writer::put_text` meets its contract: each part is written behind those before it, and all of them have room. Assumes
--- nothing.
-use mathlib.Core.List.{List, _++_}
-use mathlib.Core.Path.{_∙_}
-use Prim.Native.Nat.{ℕ}
+-- `writer::put_text` meets its contract. At each line, putting the text left behind what is written gives the buffer that putting
+-- all of it gives, and the text left has room. Assumes nothing.
+use mathlib.Core.List.{_++_}
+use mathlib.Core.Logic.{⊎-elim}
+use mathlib.Core.Path.{_≡_, refl, sym, _∙_}
+use Prim.Native.Nat.{_+_, _-_, _≤_, _<_}
 use native.Mathlib.Nat.{zero-add}
 use native.Mathlib.Omega.{arith}
-use lib.ListN.{length-append}
-use Rattle.rules.specs.TableText.{Record, Records, recordText, recordsOf, textOf}
-use Rattle.writer.proofs.Text.{AtFront, length-parts, more-at-front, parts-in-order}
-use Rattle.writer.specs.Lines.{linesText}
+use lib.ListN.{length}
+use lib.Seq.{length-take-le}
+use Rattle.digits.proofs.PutSoFar.{PutSoFar, all-put, nothing-put, part-fits, part-put}
+use Rattle.rules.specs.TableText.{recordsOf, textOf}
+use Rattle.writer.proofs.Lines.{no-text-left, row-next, text-from-first, textFrom}
+use Rattle.writer.specs.Lines.{StandsOn, Writes, recordOn, rowText}
 use borrow.Author.Needs.{needs}
 use Rattle.writer.proofs.put_text.Statement.{statement}
 use Rattle.writer.proofs.put_text.Tie as tie
 
-abbrev clock : Records → List ℕ
-clock r = recordText (Record.T (r .clock) (r .budget))
+abbrev Inv-loop : tie.InvT-loop
+Inv-loop out₀ table lines next₀ written₀ out next written =
+    (written ≤ lines) × PutSoFar (textOf (recordsOf table)) out₀ next₀ (textFrom (recordsOf table) written) out next
 
--- what is written behind each call
-first : (c : tie.After-put-line)
-    → let s = c .before .before .before .before in
-    AtFront (s .args .out .now) (clock (recordsOf (s .args .table))) (c .put-line .last .0) (c .put-line .result)
-unfolding recordText recordsOf
-first c = record {
-  buffer = c .put-line .ensures .1;
-  behind = c .put-line .ensures .0 ∙ zero-add _;
-  same-length = c .put-line .kept .0;
-}
+abbrev μ-loop : tie.MeasureT-loop
+μ-loop out₀ table lines next₀ written₀ out next written = lines - written
 
-second : (c : tie.After-put-speeds)
-    → let s = c .before .before .before .before .before .before .before .before in
-    let r = recordsOf (s .args .table) in
-    AtFront (s .args .out .now) (clock r ++ linesText Record.F (r .speeds)) (c .put-speeds .last .1 .0) (c .put-speeds .result)
-second c =
-    let s = c .before .before .before .before .before .before .before .before in
-    let r = recordsOf (s .args .table) in
-    more-at-front (linesText Record.F (r .speeds)) (c .put-speeds .last .1 .0) (c .put-speeds .result) (first (c .before .before .before .before))
-    (c .put-speeds .ensures .0) (c .put-speeds .ensures .1) (c .put-speeds .kept .1 .0)
+stands : (c : tie.After-line-at Inv-loop μ-loop)
+    → StandsOn (c .before .before .before .before .before .args .t1) (c .before .before .loop .written) (c .line-at .result)
+stands c =
+    let start = c .before .before .before .before .before in
+    c .line-at .ensures (start .args .t1) (start .pre .0 .placed) refl refl
+    (omega (arith, c .before .before .before .line-count .ensures, c .before .loop-test .taken))
 
-third : (c : tie.After-put-jobs)
-    → let s = c .before .before .before .before .before .before .before .before .before .before .before .before in
-    let r = recordsOf (s .args .table) in
-    AtFront (s .args .out .now) ((clock r ++ linesText Record.F (r .speeds)) ++ linesText Record.J (r .jobs)) (c .put-jobs .last .1 .0) (c .put-jobs .result)
-third c =
-    let s = c .before .before .before .before .before .before .before .before .before .before .before .before in
-    let r = recordsOf (s .args .table) in
-    more-at-front (linesText Record.J (r .jobs)) (c .put-jobs .last .1 .0) (c .put-jobs .result) (second (c .before .before .before .before))
-    (c .put-jobs .ensures .0) (c .put-jobs .ensures .1) (c .put-jobs .kept .1 .0)
+-- the row is that of the record which stands there, whatever its letter
+row-told : (c : tie.At-match-came Inv-loop μ-loop)
+    → Writes (recordOn (c .before .before .before .before .before .before .args .t1) (c .before .line-at .result)) (c .match .row)
+row-told c =
+    ⊎-elim (λ w. rw (w .1 .given .1, w .3) (w .2 .ensures))
+    (⊎-elim (λ w. rw (w .1 .given .1, w .5) (w .4 .ensures))
+    (⊎-elim (λ w. rw (w .1 .given .1, w .5) (w .4 .ensures))
+    (λ w. rw (w .1 .given .1, w .5) (w .4 .ensures))))
+    (c .match .came)
 
-fourth : (c : tie.After-put-holds)
-    → let s = c .before .before .before .before .before .before .before .before .before .before .before .before .before .before .before .before in
-    let r = recordsOf (s .args .table) in
-    AtFront (s .args .out .now) (textOf r) (c .put-holds .last .1 .0) (c .put-holds .result)
-fourth c =
-    let s = c .before .before .before .before .before .before .before .before .before .before .before .before .before .before .before .before in
-    let r = recordsOf (s .args .table) in
-    rw (parts-in-order r) at
-    (more-at-front (linesText Record.H (r .holds)) (c .put-holds .last .1 .0) (c .put-holds .result) (third (c .before .before .before .before))
-    (c .put-holds .ensures .0) (c .put-holds .ensures .1) (c .put-holds .kept .1 .0))
+row-fits : (c : tie.At-match-came Inv-loop μ-loop) → c .match .row .count ≤ length (c .match .row .numbers)
+row-fits c = omega (arith, row-told c .few, row-told c .places)
 
-slice-aggregate-put-line : tie.Need-slice-aggregate-put-line
-slice-aggregate-put-line c = search needs
+-- the text left: that of the row, and that behind it
+left : (c : tie.At-match-came Inv-loop μ-loop)
+    → let i = c .before .before .before .loop .written in
+    let r = recordsOf (c .before .before .before .before .before .before .args .t1) in
+    textFrom r i ≡ rowText (c .match .row) ++ textFrom r (i + 1)
+left c =
+    let t = c .before .before .before .before .before .before .args .t1 in
+    row-next t (c .before .before .before .loop .written) (c .before .line-at .result) (c .match .row) (stands (c .before)) (row-told c)
 
-put-line-requires : tie.Need-put-line-requires
-unfolding recordText recordsOf
+-- where the record stands, by its letter
+speed-there : (c : tie.After-line Inv-loop μ-loop)
+    → c .line .given .0 .0 < c .before .before .before .before .before .before .before .args .t1 .«speed_count»
+speed-there c = rw (c .line .given .1) at (stands (c .before .before) .within)
+
+job-there : (c : tie.After-line2 Inv-loop μ-loop)
+    → c .line2 .given .0 .0 < c .before .before .before .before .before .before .before .args .t1 .«job_count»
+job-there c = rw (c .line2 .given .1) at (stands (c .before .before) .within)
+
+hold-there : (c : tie.After-line3 Inv-loop μ-loop)
+    → c .line3 .given .0 .0 < c .before .before .before .before .before .before .before .args .t1 .«hold_count»
+hold-there c = rw (c .line3 .given .1) at (stands (c .before .before) .within)
+
+line-count-requires : tie.Need-line-count-requires Inv-loop μ-loop
+line-count-requires c κs = search needs
+
+loop-holds : tie.Need-loop-holds Inv-loop μ-loop
+loop-holds c =
+    let start = c .before .before in
+    let r = recordsOf (start .args .t1) in
+    (omega arith, rw (text-from-first r) (nothing-put (textOf r) _ 0 (omega (arith, start .pre .1))))
+
+line-at-requires : tie.Need-line-at-requires Inv-loop μ-loop
+line-at-requires c κs = search needs
+
+enum-told : tie.Need-enum-told Inv-loop μ-loop
+enum-told c = search needs
+
+clock-row-requires : tie.Need-clock-row-requires Inv-loop μ-loop
+clock-row-requires c κs = search needs
+
+enum-known-line : tie.Need-enum-known-line Inv-loop μ-loop
+enum-known-line c = search needs
+
+mul-speed-row : tie.Need-mul-speed-row Inv-loop μ-loop
+mul-speed-row c = omega (arith, speed-there (c .before))
+
+element-copy-out-speed-row : tie.Need-element-copy-out-speed-row Inv-loop μ-loop
+element-copy-out-speed-row c = omega (arith, speed-there (c .before))
+
+speed-row-requires : tie.Need-speed-row-requires Inv-loop μ-loop
+speed-row-requires c κs = search needs
+
+enum-known-line-2 : tie.Need-enum-known-line-2 Inv-loop μ-loop
+enum-known-line-2 c = search needs
+
+mul-job-row : tie.Need-mul-job-row Inv-loop μ-loop
+mul-job-row c = omega (arith, job-there (c .before))
+
+element-copy-out-job-row : tie.Need-element-copy-out-job-row Inv-loop μ-loop
+element-copy-out-job-row c = omega (arith, job-there (c .before))
+
+job-row-requires : tie.Need-job-row-requires Inv-loop μ-loop
+job-row-requires c κs = search needs
+
+enum-known-line-3 : tie.Need-enum-known-line-3 Inv-loop μ-loop
+enum-known-line-3 c = search needs
+
+mul-hold-row : tie.Need-mul-hold-row Inv-loop μ-loop
+mul-hold-row c = omega (arith, hold-there (c .before))
+
+element-copy-out-hold-row : tie.Need-element-copy-out-hold-row Inv-loop μ-loop
+element-copy-out-hold-row c = omega (arith, hold-there (c .before))
+
+hold-row-requires : tie.Need-hold-row-requires Inv-loop μ-loop
+hold-row-requires c κs = search needs
+
+array-share-prefix-fields : tie.Need-array-share-prefix-fields Inv-loop μ-loop
+array-share-prefix-fields c = row-fits (c .before .before)
+
+slice-aggregate-put-line : tie.Need-slice-aggregate-put-line Inv-loop μ-loop
+slice-aggregate-put-line c = sym (length-take-le _ _ (row-fits (c .before .before .before)))
+
+put-line-requires : tie.Need-put-line-requires Inv-loop μ-loop
 put-line-requires c κs =
-    let s = c .before .before .before in
-    omega (arith, s .pre .1, length-parts (recordsOf (s .args .table)))
+    let came = c .before .before .before in
+    part-fits _ _ _ (came .before .before .before .loop .inv .1) (rowText (came .match .row)) _ (left came)
 
-put-speeds-requires : tie.Need-put-speeds-requires
-put-speeds-requires c κs =
-    let s = c .before .before .before .before .before .before .before in
-    let p = c .before .before .before in
-    let r = recordsOf (s .args .table) in
-    (s .pre .0 .speeds, omega (arith, length-parts r, s .pre .1, first p .behind, first p .same-length))
+add-written : tie.Need-add-written Inv-loop μ-loop
+add-written c = search needs
 
-put-jobs-requires : tie.Need-put-jobs-requires
-put-jobs-requires c κs =
-    let s = c .before .before .before .before .before .before .before .before .before .before .before in
-    let p = c .before .before .before in
-    let r = recordsOf (s .args .table) in (
-      s .pre .0 .jobs,
-      omega (arith, length-parts r, s .pre .1, second p .behind, second p .same-length, length-append (clock r) (linesText Record.F (r .speeds))),
+loop-less : tie.Need-loop-less Inv-loop μ-loop
+loop-less c = search needs
+
+loop-again : tie.Need-loop-again Inv-loop μ-loop
+loop-again c =
+    let put-line = c .before .before .put-line in
+    let came = c .before .before .before .before .before .before in (
+      omega arith,
+      part-put _ _ _ (came .before .before .before .loop .inv .1) (rowText (came .match .row)) _ _ _ (left came)
+          (put-line .ensures .0) (put-line .ensures .1) (put-line .kept .0),
     )
 
-put-holds-requires : tie.Need-put-holds-requires
-put-holds-requires c κs =
-    let s = c .before .before .before .before .before .before .before .before .before .before .before .before .before .before .before in
-    let p = c .before .before .before in
-    let r = recordsOf (s .args .table) in (
-      s .pre .0 .holds,
-      omega
-          (arith, length-parts r, s .pre .1, third p .behind, third p .same-length, length-append (clock r) (linesText Record.F (r .speeds)), length-append (clock r ++ linesText Record.F (r .speeds)) (linesText Record.J (r .jobs))),
-    )
+same-length : tie.Need-same-length Inv-loop μ-loop
+same-length c = c .before .loop .inv .1 .same-length
 
-same-length : tie.Need-same-length
-same-length c = search needs
-
-returns : tie.Need-returns
-returns c = let whole = fourth (c .before .before) in (whole .behind, whole .buffer)
+returns : tie.Need-returns Inv-loop μ-loop
+returns c =
+    let r = recordsOf (c .before .before .before .before .args .t1) in
+    let loop = c .before .loop in
+    let none = no-text-left r (loop .written) (omega (arith, c .before .before .line-count .ensures, c .loop-test .left)) in
+    let all = all-put _ _ _ (loop .inv .1) none in
+    (all .0 ∙ zero-add _, all .1)
 
 pub put-text-spec : {M : Type 1} → statement M
 put-text-spec =
     tie.close
     (tie.spec
+    Inv-loop
+    μ-loop
+    line-count-requires
+    loop-holds
+    line-at-requires
+    enum-told
+    clock-row-requires
+    enum-known-line
+    mul-speed-row
+    element-copy-out-speed-row
+    speed-row-requires
+    enum-known-line-2
+    mul-job-row
+    element-copy-out-job-row
+    job-row-requires
+    enum-known-line-3
+    mul-hold-row
+    element-copy-out-hold-row
+    hold-row-requires
+    array-share-prefix-fields
     slice-aggregate-put-line
     put-line-requires
-    put-speeds-requires
-    put-jobs-requires
-    put-holds-requires
+    add-written
+    loop-less
+    loop-again
     same-length
     returns)

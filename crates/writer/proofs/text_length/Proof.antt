@@ -1,64 +1,186 @@
--- `writer::text_length` meets its contract: the text is its four parts, and no longer than the longest. Assumes nothing.
-use mathlib.Core.Path.{_≡_}
+-- `writer::text_length` meets its contract. At each line, what is counted and the text left make the whole, which is no longer
+-- than the longest. Assumes nothing.
+use mathlib.Core.Logic.{⊎-elim}
+use mathlib.Core.Path.{_≡_, refl, sym}
+use Prim.Native.Nat.{_+_, _-_, _≤_, _<_}
 use native.Mathlib.Omega.{arith}
-use lib.ListN.{length}
-use Rattle.rules.specs.TableText.{Record, letterT, recordText, recordsOf}
-use Rattle.writer.proofs.Text.{length-parts}
+use lib.ListN.{length, length-append}
+use lib.Seq.{length-take-le}
+use Rattle.rules.specs.TableText.{recordsOf, textOf}
+use Rattle.writer.proofs.Lines.{no-text-left, row-next, text-from-first, textFrom}
+use Rattle.writer.specs.Lines.{StandsOn, Writes, recordOn, rowText}
 use borrow.Author.Needs.{needs}
 use Rattle.writer.proofs.text_length.Statement.{statement}
 use Rattle.writer.proofs.text_length.Tie as tie
 
-clock-line : (c : tie.After-line-length)
-    → let r = recordsOf (c .before .before .before .before .before .args .table) in
-    c .line-length .result ≡ length (recordText (Record.T (r .clock) (r .budget)))
-unfolding recordText recordsOf
-clock-line c = c .line-length .ensures letterT
+abbrev Inv-loop : tie.InvT-loop
+Inv-loop table lines bytes₀ counted₀ bytes counted =
+    (counted ≤ lines) × (bytes + length (textFrom (recordsOf table) counted) ≡ length (textOf (recordsOf table)))
 
-speeds-length-requires : tie.Need-speeds-length-requires
-speeds-length-requires c κs = search needs
+abbrev μ-loop : tie.MeasureT-loop
+μ-loop table lines bytes₀ counted₀ bytes counted = lines - counted
 
-jobs-length-requires : tie.Need-jobs-length-requires
-jobs-length-requires c κs = search needs
+stands : (c : tie.After-line-at Inv-loop μ-loop)
+    → StandsOn (c .before .before .before .before .args .t1) (c .before .before .loop .counted) (c .line-at .result)
+stands c =
+    let start = c .before .before .before .before in
+    c .line-at .ensures (start .args .t1) (start .pre .placed) refl refl
+    (omega (arith, c .before .before .before .line-count .ensures, c .before .loop-test .taken))
 
-add-behind-clock : tie.Need-add-behind-clock
-add-behind-clock c =
-    let start = c .before .before in
-    omega (arith, length-parts (recordsOf (start .args .table)), start .pre .bytes)
+-- the row is that of the record which stands there, whatever its letter
+row-told : (c : tie.At-match-came Inv-loop μ-loop)
+    → Writes (recordOn (c .before .before .before .before .before .args .t1) (c .before .line-at .result)) (c .match .row)
+row-told c =
+    ⊎-elim (λ w. rw (w .1 .given .1, w .3) (w .2 .ensures))
+    (⊎-elim (λ w. rw (w .1 .given .1, w .5) (w .4 .ensures))
+    (⊎-elim (λ w. rw (w .1 .given .1, w .5) (w .4 .ensures))
+    (λ w. rw (w .1 .given .1, w .5) (w .4 .ensures))))
+    (c .match .came)
 
-holds-length-requires : tie.Need-holds-length-requires
-holds-length-requires c κs = search needs
+row-fits : (c : tie.At-match-came Inv-loop μ-loop) → c .match .row .count ≤ length (c .match .row .numbers)
+row-fits c = omega (arith, row-told c .few, row-told c .places)
 
-add-behind-clock-2 : tie.Need-add-behind-clock-2
-add-behind-clock-2 c =
-    let start = c .before .before .before in
-    omega (arith, length-parts (recordsOf (start .args .table)), start .pre .bytes)
+-- the line that was counted, and the text behind it
+line-counted : (c : tie.After-line-length Inv-loop μ-loop)
+    → let came = c .before .before .before in
+    let loop = came .before .before .before .loop in
+    let r = recordsOf (came .before .before .before .before .before .args .t1) in
+    loop .bytes + c .line-length .result + length (textFrom r (loop .counted + 1)) ≡ length (textOf r)
+line-counted c =
+    let came = c .before .before .before in
+    let loop = came .before .before .before .loop in
+    let t = came .before .before .before .before .before .args .t1 in
+    let next = row-next t (loop .counted) (came .before .line-at .result) (came .match .row) (stands (came .before)) (row-told came) in
+    omega (
+      arith,
+      c .line-length .ensures (came .match .row .letter),
+      rw next at (loop .inv .1),
+      length-append (rowText (came .match .row)) (textFrom (recordsOf t) (loop .counted + 1)),
+    )
 
-slice-aggregate-line-length : tie.Need-slice-aggregate-line-length
-slice-aggregate-line-length c = search needs
+-- where the record stands, by its letter
+speed-there : (c : tie.After-line Inv-loop μ-loop)
+    → c .line .given .0 .0 < c .before .before .before .before .before .before .args .t1 .«speed_count»
+speed-there c = rw (c .line .given .1) at (stands (c .before .before) .within)
 
-line-length-requires : tie.Need-line-length-requires
-line-length-requires c κs = search needs
+job-there : (c : tie.After-line2 Inv-loop μ-loop)
+    → c .line2 .given .0 .0 < c .before .before .before .before .before .before .args .t1 .«job_count»
+job-there c = rw (c .line2 .given .1) at (stands (c .before .before) .within)
 
-add-result : tie.Need-add-result
-add-result c =
-    let start = c .before .before .before .before .before in
-    omega (arith, clock-line c, length-parts (recordsOf (start .args .table)), start .pre .bytes)
+hold-there : (c : tie.After-line3 Inv-loop μ-loop)
+    → c .line3 .given .0 .0 < c .before .before .before .before .before .before .args .t1 .«hold_count»
+hold-there c = rw (c .line3 .given .1) at (stands (c .before .before) .within)
 
-returns : tie.Need-returns
+line-count-requires : tie.Need-line-count-requires Inv-loop μ-loop
+line-count-requires c κs = search needs
+
+loop-holds : tie.Need-loop-holds Inv-loop μ-loop
+loop-holds c = (omega arith, rw (text-from-first (recordsOf (c .before .args .t1))) (omega arith))
+
+line-at-requires : tie.Need-line-at-requires Inv-loop μ-loop
+line-at-requires c κs = search needs
+
+enum-told : tie.Need-enum-told Inv-loop μ-loop
+enum-told c = search needs
+
+clock-row-requires : tie.Need-clock-row-requires Inv-loop μ-loop
+clock-row-requires c κs = search needs
+
+enum-known-line : tie.Need-enum-known-line Inv-loop μ-loop
+enum-known-line c = search needs
+
+mul-speed-row : tie.Need-mul-speed-row Inv-loop μ-loop
+mul-speed-row c = omega (arith, speed-there (c .before))
+
+element-copy-out-speed-row : tie.Need-element-copy-out-speed-row Inv-loop μ-loop
+element-copy-out-speed-row c = omega (arith, speed-there (c .before))
+
+speed-row-requires : tie.Need-speed-row-requires Inv-loop μ-loop
+speed-row-requires c κs = search needs
+
+enum-known-line-2 : tie.Need-enum-known-line-2 Inv-loop μ-loop
+enum-known-line-2 c = search needs
+
+mul-job-row : tie.Need-mul-job-row Inv-loop μ-loop
+mul-job-row c = omega (arith, job-there (c .before))
+
+element-copy-out-job-row : tie.Need-element-copy-out-job-row Inv-loop μ-loop
+element-copy-out-job-row c = omega (arith, job-there (c .before))
+
+job-row-requires : tie.Need-job-row-requires Inv-loop μ-loop
+job-row-requires c κs = search needs
+
+enum-known-line-3 : tie.Need-enum-known-line-3 Inv-loop μ-loop
+enum-known-line-3 c = search needs
+
+mul-hold-row : tie.Need-mul-hold-row Inv-loop μ-loop
+mul-hold-row c = omega (arith, hold-there (c .before))
+
+element-copy-out-hold-row : tie.Need-element-copy-out-hold-row Inv-loop μ-loop
+element-copy-out-hold-row c = omega (arith, hold-there (c .before))
+
+hold-row-requires : tie.Need-hold-row-requires Inv-loop μ-loop
+hold-row-requires c κs = search needs
+
+array-share-prefix-fields : tie.Need-array-share-prefix-fields Inv-loop μ-loop
+array-share-prefix-fields c = row-fits (c .before)
+
+slice-aggregate-line-length : tie.Need-slice-aggregate-line-length Inv-loop μ-loop
+slice-aggregate-line-length c = sym (length-take-le _ _ (row-fits (c .before .before)))
+
+line-length-requires : tie.Need-line-length-requires Inv-loop μ-loop
+line-length-requires c κs =
+    let came = c .before .before in
+    omega (arith, row-told came .few, length-take-le (came .match .row .count) (came .match .row .numbers) (row-fits came))
+
+add-bytes : tie.Need-add-bytes Inv-loop μ-loop
+add-bytes c =
+    omega (arith, line-counted c, c .before .before .before .before .before .before .before .before .pre .bytes)
+
+add-counted : tie.Need-add-counted Inv-loop μ-loop
+add-counted c = search needs
+
+loop-less : tie.Need-loop-less Inv-loop μ-loop
+loop-less c = search needs
+
+loop-again : tie.Need-loop-again Inv-loop μ-loop
+loop-again c = (omega arith, line-counted c)
+
+returns : tie.Need-returns Inv-loop μ-loop
 returns c =
-    let start = c .before .before .before .before .before in
-    omega (arith, clock-line c, length-parts (recordsOf (start .args .table)))
+    let t = c .before .before .before .args .t1 in
+    let loop = c .before .loop in
+    let none = no-text-left (recordsOf t) (loop .counted) (omega (arith, c .before .before .line-count .ensures, c .loop-test .left)) in
+    omega (arith, rw none at (loop .inv .1))
 
 pub text-length-spec : {M : Type 1} → statement M
 text-length-spec =
     tie.close
     (tie.spec
-    speeds-length-requires
-    jobs-length-requires
-    add-behind-clock
-    holds-length-requires
-    add-behind-clock-2
+    Inv-loop
+    μ-loop
+    line-count-requires
+    loop-holds
+    line-at-requires
+    enum-told
+    clock-row-requires
+    enum-known-line
+    mul-speed-row
+    element-copy-out-speed-row
+    speed-row-requires
+    enum-known-line-2
+    mul-job-row
+    element-copy-out-job-row
+    job-row-requires
+    enum-known-line-3
+    mul-hold-row
+    element-copy-out-hold-row
+    hold-row-requires
+    array-share-prefix-fields
     slice-aggregate-line-length
     line-length-requires
-    add-result
+    add-bytes
+    add-counted
+    loop-less
+    loop-again
     returns)

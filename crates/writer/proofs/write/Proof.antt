@@ -3,12 +3,14 @@
 use mathlib.Core.List.{[]}
 use mathlib.Core.Path.{_≡_, sym, ap, _∙_}
 use native.Mathlib.Omega.{arith}
+use lib.ListN.{length-map}
 use Rattle.checks.proofs.Exactly.{done-exactly, refused-exactly}
 use Rattle.rules.specs.Answers.{verdictSays}
 use Rattle.rules.specs.Refusals.{check, taken}
 use Rattle.rules.specs.TableText.{recordsOf}
 use Rattle.rules.specs.declared.Verdict.{Verdict}
 use Rattle.writer.proofs.Answer.{checked, no-room, refused-answer, text-written}
+use Rattle.writer.specs.Lines.{Checked}
 use borrow.Author.Needs.{needs}
 use Rattle.writer.proofs.write.Statement.{statement}
 use Rattle.writer.proofs.write.Tie as tie
@@ -21,6 +23,14 @@ done : (c : tie.After-enum-told) → let t = c .before .before .before .before .
 done c =
     let t = c .before .before .before .before .args .table in
     done-exactly t .0 (sym (says (c .enum-told .given .1)) ∙ c .before .before .check-table .ensures)
+
+checked-table : (c : tie.After-enum-told) → Checked (c .before .before .before .before .args .table)
+checked-table c =
+    let start = c .before .before .before .before in
+    let t = start .args .table in
+    let good = start .good .0 .1 .1 .1 .1 .1 .1 .1 in
+    checked t (done c) (sym (length-map (t .speeds) _) ∙ good .0 .1 .0 .1) (sym (length-map (t .jobs) _) ∙ good .1 .0 .1 .0 .1)
+    (sym (length-map (t .holds) _) ∙ good .1 .1 .0 .1 .0 .1)
 
 check-table-requires : tie.Need-check-table-requires
 check-table-requires c κs = search needs
@@ -41,7 +51,7 @@ enum-told : tie.Need-enum-told
 enum-told c = search needs
 
 text-length-requires : tie.Need-text-length-requires
-text-length-requires c κs = checked (c .before .before .before .before .args .table) (done c)
+text-length-requires c κs = checked-table c
 
 returns-2 : tie.Need-returns-2
 returns-2 c =
@@ -52,8 +62,7 @@ returns-2 c =
 put-text-requires : tie.Need-put-text-requires
 put-text-requires c κs =
     let e = c .before .before .before in
-    let s = e .before .before .before .before in
-    (checked (s .args .table) (done e), omega (arith, c .before .if1 .left, c .before .before .text-length .ensures))
+    (checked-table e, omega (arith, c .before .if1 .left, c .before .before .text-length .ensures))
 
 same-length : tie.Need-same-length
 same-length c = search needs

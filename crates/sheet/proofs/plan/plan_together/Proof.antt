@@ -63,6 +63,7 @@ use Rattle.sheet.proofs.plan.put_planned as put
 use Rattle.sheet.proofs.plan.put_planned.Met as put-thm
 use Rattle.sheet.proofs.plan.put_planned.Symbol as put-def
 use Rattle.sheet.proofs.plan.put_planned.Symbol.{name as #sheet·put-planned}
+use Rattle.rules.specs.Refusals.{read}
 
 -- the lists that `plan` leaves in its three slices: that of the fate buffer alone
 abbrev Left : Type 0
@@ -148,7 +149,7 @@ module _ {M : Type 1} (𝓤 : URA M) (H : Heap 𝓤) (A : Atoms 𝓤) (W : Given
 
   -- what `plan` promises, of the part that `put_planned` handed back
   part-promised : (r : Planned) (gs : List ℕ) (part : RefT (List ℕ))
-      → PlannedAs (t .now) (x .now) (f .now) (x .ptr) r gs → Same (r .plan) part
+      → PlannedAs (read (t .now)) (x .now) (f .now) (x .ptr) r gs → Same (r .plan) part
       → Part t x f part
   part-promised r gs part p same = (same .0 ∙ p .plan, same .1 ∙ p .begins)
 
@@ -184,9 +185,9 @@ module _ {M : Type 1} (𝓤 : URA M) (H : Heap 𝓤) (A : Atoms 𝓤) (W : Given
         $ await ! tt $ pick ! (λ r. split ! $ move ! (1 ∷ [])
         -- what `plan` ensures, at the list that it left
         $ use1 W (some (λ (ls : Left). ‵ (lasts plan.ended κs a ls)
-        ⊛ raw (fact 𝓤 (PlannedAs (t .now) (x .now) (f .now) (x .ptr) r (ls .1 .1 .0))))) (id⊢ 𝓤 _)
+        ⊛ raw (fact 𝓤 (PlannedAs (read (t .now)) (x .now) (f .now) (x .ptr) r (ls .1 .1 .0))))) (id⊢ 𝓤 _)
         $ pick ! (λ ls. split ! $ move ! (1 ∷ [])
-        $ heard ! (PlannedAs (t .now) (x .now) (f .now) (x .ptr) r (ls .1 .1 .0)) (λ promised. fsplit3 !
+        $ heard ! (PlannedAs (read (t .now)) (x .now) (f .now) (x .ptr) r (ls .1 .1 .0)) (λ promised. fsplit3 !
         $ move ! (2 ∷ []) $ fsplit ! $ fsplit ! $ move ! (1 ∷ []) $ feqL ! (λ as-long. move ! (4 ∷ []) $ split !
         $ move ! (1 ∷ [])
         $ peeks ! (T.the-row α) (Is (T.the-row α)) (shows 𝓤 H A (T.the-row α)) r (w ∷ []) (λ is.

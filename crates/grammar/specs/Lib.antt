@@ -1,0 +1,5 @@
+pub mod Put
+pub mod FirstLine
+pub mod PartPlaces
+pub mod Longest
+pub mod SoFar

@@ -1,0 +1,17 @@
+pub mod Running
+mod Ranks
+pub mod Jobs
+pub mod Walks
+pub mod Rings
+pub mod Turns
+pub mod Entries
+mod Trials
+pub mod RunOrder
+pub mod Course
+mod Totals
+pub mod Speeds
+pub mod Planned
+pub mod Overtaken
+pub mod Fates
+pub mod Given
+pub mod ChainRuns

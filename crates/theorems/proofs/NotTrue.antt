@@ -1,0 +1,77 @@
+-- What is not true of the rules, each with a table that shows it. Nobody may rely on these, and no promise says them. antt
+-- computes the plans; each table is one that the reader takes. Assumes nothing.
+use mathlib.Core.Bool.{false}
+use mathlib.Core.List.{[], _∷_}
+use mathlib.Core.Path.{_≡_, refl}
+use Prim.Native.Nat.{ℕ}
+use Rattle.grammar.proofs.Tables.{hold, job, read-valid, speed, table}
+use Rattle.rules.specs.Case.{right}
+use Rattle.rules.specs.Plan.{courseOf, endsLate, energyAt, fatesOf, numbersOf, planOf, tooDear, topOf, trial, turnOf}
+use Rattle.rules.specs.TableText.{Records}
+use Rattle.rules.specs.Valid.{Valid}
+
+-- NOT TRUE: more budget never loses a job. With a budget of 200 jobs 3 and 1 run; with 300 job 2, whose ratio is the highest,
+-- is bought first, and both get a 6.
+abbrev budgeted : ℕ → Records
+budgeted budget =
+    table 0 budget (speed 1000 10 ∷ [])
+    (job 1 5 10 60 90 0 ∷ job 2 30 90 40 70 0 ∷ job 3 5 10 40 70 0 ∷ [])
+    []
+
+pub budgets-valid : Valid (budgeted 200) × Valid (budgeted 300)
+unfolding right
+budgets-valid = (read-valid (budgeted 200) refl, read-valid (budgeted 300) refl)
+
+pub less-budget-plans-two : numbersOf (planOf (budgeted 200) .jobs) ≡ 3 ∷ 1 ∷ []
+unfolding right
+less-budget-plans-two = refl
+
+pub more-budget-loses-them : (numbersOf (planOf (budgeted 300) .jobs) ≡ 2 ∷ []) × (fatesOf (planOf (budgeted 300) .fates) ≡ 6 ∷ 1 ∷ 6 ∷ [])
+unfolding right
+more-budget-loses-them = (refl, refl)
+
+-- NOT TRUE: a 5 still holds against the final plan. Job 1 gets a 5; then job 3 comes in and takes job 2, for which it waits,
+-- forward. Tried again, job 1 would end in time and within budget.
+abbrev outlived : Records
+outlived =
+    table 0 99 (speed 1000 1 ∷ [])
+    (job 1 2 7 2 5 0 ∷ job 2 1 6 2 2 0 ∷ job 3 2 3 1 3 1 ∷ [])
+    (hold 1 2 ∷ [])
+
+pub outlived-valid : Valid outlived
+unfolding right
+outlived-valid = read-valid outlived refl
+
+pub five-given : fatesOf (planOf outlived .fates) ≡ 5 ∷ 1 ∷ 1 ∷ []
+unfolding right
+five-given = refl
+
+pub five-would-fit : let again = trial (turnOf outlived (job 1 2 7 2 5 0)) (courseOf outlived .plan) in
+    (endsLate outlived again ≡ false) × (tooDear outlived again ≡ false)
+unfolding right
+five-would-fit = (refl, refl)
+
+-- NOT TRUE: the energy never exceeds that at top speed. The lowest speed that qualifies is the dearer one here: 60 units for 50.
+abbrev dearer : Records
+dearer = table 0 300 (speed 500 12 ∷ speed 1000 10 ∷ []) (job 1 5 90 50 70 0 ∷ []) []
+
+pub dearer-valid : Valid dearer
+unfolding right
+dearer-valid = read-valid dearer refl
+
+pub energy-above-top : (planOf dearer .energy ≡ 60) × (energyAt (topOf dearer) (planOf dearer .jobs) ≡ 50)
+unfolding right
+energy-above-top = (refl, refl)
+
+-- NOT TRUE: a job of worth 0 matters only to those waiting for it. Nobody waits for job 2, and it is planned, since its chain
+-- has worth; its charge is spent.
+abbrev worthless : Records
+worthless = table 0 300 (speed 1000 10 ∷ []) (job 1 5 90 50 50 0 ∷ job 2 5 0 60 60 1 ∷ []) (hold 1 1 ∷ [])
+
+pub worthless-valid : Valid worthless
+unfolding right
+worthless-valid = read-valid worthless refl
+
+pub worthless-planned : (numbersOf (planOf worthless .jobs) ≡ 1 ∷ 2 ∷ []) × (planOf worthless .energy ≡ 100)
+unfolding right
+worthless-planned = (refl, refl)

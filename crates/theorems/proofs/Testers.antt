@@ -1,0 +1,127 @@
+-- The ten theorems for testers, of every valid table's plan, in one place. Each is proved where its reason is: Speeds (1
+-- and 2), Planned (3, 4), Fates (4), Rings (5), Overtaken (6, 7, 8), NotEmpty (9), Again (10). Assumes nothing.
+use mathlib.Core.Bool.{Bool, true}
+use mathlib.Core.List.{List, [], _∷_, cons≢nil, map}
+use mathlib.Core.Logic.{_⊎_}
+use mathlib.Core.Option.{none}
+use mathlib.Core.Path.{_≡_, refl}
+use Prim.Native.Nat.{_+_, _*_, _≤_, _<_}
+use lib.Dec.{eqb}
+use lib.ListN.{length}
+use Rattle.theorems.proofs.Again.{again, all-planned-again, planned, planned-again}
+use Rattle.steps.proofs.Course.{AtEachTurn, at-each-turn-of}
+use Rattle.laws.proofs.Elements.{each-too}
+use Rattle.steps.proofs.Fates.{fates-1-to-6}
+use Rattle.theorems.proofs.NotEmpty.{not-empty, nothing-requested}
+use Rattle.theorems.proofs.Outside.{Alone}
+use Rattle.theorems.proofs.OutsideValid.{outside-valid}
+use Rattle.steps.proofs.Overtaken.{TakesIn, lacking, only-five-overtaken, plan-grows, planned-stays, six-stays-true}
+use Rattle.laws.specs.Pairs.{Distinct}
+use Rattle.steps.proofs.Planned.{HoldersBefore, each-fated, holders-before, one-exactly-for-planned, plan-counts-ones, planned-once, sound-holders-before}
+use Rattle.steps.proofs.Rings.{OnRing, Reaches, chain-at-most-33, last-waits-for-nobody, no-ring-left, one-leaves-each-ring, taken-only-from-rings}
+use Rattle.steps.proofs.Speeds.{SpeedChosen, energy-in-budget, finish-in-time, plan-speed, planned-end-in-time, top-cost-in-budget}
+use Rattle.rules.specs.Listing.{finish}
+use Rattle.rules.specs.Lists.{Each, keep, lastOr}
+use Rattle.rules.specs.Plan.{Entry, Fated, chainOf, courseOf, cyclesOf, endsInTime, energyAt, fateBudget, fatePlanned, fateTime, fatesOf, inPlan, jobsOf, leavesItsRing, left, numbersOf, planFrom, planOf, runsOf, noTurnYet, timely, topOf, turn, turns, waitsLeft, waitsTimely, runOrder}
+use Rattle.rules.specs.TableText.{Records, noJob}
+use Rattle.rules.specs.Valid.{Valid}
+use Rattle.rules.specs.declared.Job.{Job}
+use Rattle.steps.proofs.RunOrder.{run-order}
+
+-- the job is in the final plan
+abbrev pub isPlanned : Records → Job → Bool
+isPlanned t j = inPlan j (courseOf t .plan)
+
+pub record Promises (t : Records) : Type 0 where
+  -- 1. The energy is within budget, and so are all cycles at top cost. Step 9 always finds a speed: one that qualifies, and
+  -- the least that does.
+  pub energy-within-budget : planOf t .energy ≤ t .budget
+  pub top-cost-within-budget : energyAt (topOf t) (planOf t .jobs) ≤ t .budget
+  pub speed-found : SpeedChosen t (planOf t .jobs) (planOf t .speed)
+  -- 2. Every planned job ends by its termination at the chosen speed, and so does the finish that the listing prints.
+  pub ends-in-time : Each (λ r. endsInTime (t .clock) (planOf t .speed .mhz) r ≡ true) (runsOf (planOf t .jobs))
+  pub finish-by-termination : Each (λ r. finish (t .clock) (planOf t .speed .mhz) r ≤ r .job .termination)
+      (runsOf (planOf t .jobs))
+  -- 3. A job never stands before the job it waits for: whom it waits for is planned, and stands before it. So it is in the
+  -- final plan, and in the plan before each turn, whatever earlier trials moved.
+  pub holder-before-waiter : HoldersBefore (waitsLeft t) [] (planOf t .jobs)
+  pub holder-before-waiter-always : AtEachTurn t (λ i c. HoldersBefore (waitsLeft t) [] (runOrder t (c .plan))) (turns t) noTurnYet
+  -- 4. Each job is at most once in the plan. Fate 1 is exactly for the planned; the count of the plan is the number of 1s;
+  -- each fate is one of the six.
+  pub at-most-once : Distinct (numbersOf (planOf t .jobs))
+  pub one-for-the-planned : Each (λ (i : Fated). eqb (i .fate) fatePlanned ≡ isPlanned t (i .job)) (planOf t .fates)
+  pub count-of-ones : length (keep (λ f. eqb f fatePlanned) (fatesOf (planOf t .fates))) ≡ length (planOf t .jobs)
+  pub one-of-six : Each (λ (i : Fated). (1 ≤ i .fate) × (i .fate ≤ 6)) (planOf t .fates)
+  -- 5. Exactly one job goes from each ring, and none that is on no ring. After step 2 no ring is left; a chain has at most
+  -- 33 members, and its last waits for nobody.
+  pub one-from-each-ring : (j : Job) → OnRing (waitsTimely t) j
+      → (w : Job) × Reaches (waitsTimely t) j w × (leavesItsRing t w ≡ true)
+      × ((u : Job) → Reaches (waitsTimely t) j u → leavesItsRing t u ≡ true → u ≡ w)
+  pub none-without-ring : Each (λ j. leavesItsRing t j ≡ true → OnRing (waitsTimely t) j) (timely t)
+  pub no-ring-after : (j : Job) → OnRing (waitsLeft t) j → ⊥
+  pub chain-short : (j : Job) → length (chainOf t j) ≤ 33
+  pub chain-ends : (j : Job) → waitsLeft t (lastOr noJob (chainOf t j)) ≡ none
+  -- 6. A job in the plan never leaves it. A turn takes its job in and makes the cycle total greater, or leaves the plan as
+  -- it stands.
+  pub never-leaves : AtEachTurn t (λ i c. (k : Job) → inPlan k (c .plan) ≡ true → isPlanned t k ≡ true) (turns t) noTurnYet
+  pub total-grows : AtEachTurn t (λ i c. TakesIn t i (c .plan) ⊎ (turn t i (c .plan) .plan ≡ c .plan)) (turns t) noTurnYet
+  -- 7. A 6 stays true at the end: the final plan, with what it lacks of the job's chain, would break the budget.
+  pub six-true-at-end : Each (λ (i : Fated). i .fate ≡ fateBudget
+      → t .budget < (cyclesOf (planOf t .jobs) + cyclesOf (lacking t (i .job))) * topOf t .cost) (planOf t .fates)
+  -- 8. Step 8 can only overtake a 5: the own turn of a planned job gave 1 or 5, never 4 or 6.
+  pub only-five : Each (λ (i : Fated). isPlanned t (i .job) ≡ true → (i .fate ≡ fatePlanned) ⊎ (i .fate ≡ fateTime))
+      (courseOf t .ownFates)
+  -- 9. A remaining job that waits for nobody, as one that requests nothing does, has worth and fits the budget alone at top
+  -- cost makes the plan non-empty.
+  pub not-empty-if : Each (λ j. waitsLeft t j ≡ none → 0 < j .worth → j .cycles * topOf t .cost ≤ t .budget
+      → planOf t .jobs ≡ [] → ⊥) (left t)
+  pub no-request-no-wait : (j : Job) → j .request ≡ 0 → waitsLeft t j ≡ none
+  -- 10. The planned jobs alone, with what they hold, are a valid table. Planning it gives the same plan, speed and energy,
+  -- and each of its jobs is planned.
+  pub again-valid : Valid (again t)
+  pub same-again : Alone (planned t) t
+  pub planned-all-again : Each (λ (i : Fated). i .fate ≡ fatePlanned) (planOf (again t) .fates)
+
+module _ (t : Records) (v : Valid t) where
+  six-in-plan : Each (λ (i : Fated). i .fate ≡ fateBudget
+      → t .budget < (cyclesOf (planOf t .jobs) + cyclesOf (lacking t (i .job))) * topOf t .cost) (planOf t .fates)
+  unfolding planOf planFrom
+  six-in-plan = each-fated t (six-stays-true t v)
+
+  no-job-no-entry : planOf t .jobs ≡ [] → courseOf t .plan ≡ []
+  unfolding planOf planFrom jobsOf
+  no-job-no-entry e = from (courseOf t .plan) (rw (run-order t (courseOf t .plan)) at e)
+    where
+      from : (p : List Entry) → map (λ (e : Entry). e .job) p ≡ [] → p ≡ []
+      from [] e = refl
+      from (x ∷ p) e = absurd (cons≢nil e)
+
+  pub promises : Promises t
+  promises =
+      record {
+        energy-within-budget = energy-in-budget t v;
+        top-cost-within-budget = top-cost-in-budget t v;
+        speed-found = plan-speed t v;
+        ends-in-time = planned-end-in-time t v;
+        finish-by-termination = finish-in-time t v;
+        holder-before-waiter = holders-before t v;
+        holder-before-waiter-always = at-each-turn-of t v (λ i is c r s e. sound-holders-before t v s);
+        at-most-once = planned-once t v;
+        one-for-the-planned = each-fated t (one-exactly-for-planned t v);
+        count-of-ones = plan-counts-ones t v;
+        one-of-six = fates-1-to-6 t v;
+        one-from-each-ring = one-leaves-each-ring t v;
+        none-without-ring = taken-only-from-rings t v;
+        no-ring-after = no-ring-left t v;
+        chain-short = chain-at-most-33 t v;
+        chain-ends = last-waits-for-nobody t v;
+        never-leaves = planned-stays t v;
+        total-grows = plan-grows t v;
+        six-true-at-end = six-in-plan;
+        only-five = only-five-overtaken t v;
+        not-empty-if = each-too (λ j h w g b e. h w g b (no-job-no-entry e)) (not-empty t v);
+        no-request-no-wait = nothing-requested t v;
+        again-valid = outside-valid (planned t) t v;
+        same-again = planned-again t v;
+        planned-all-again = all-planned-again t v;
+      }

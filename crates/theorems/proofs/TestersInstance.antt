@@ -1,0 +1,54 @@
+-- The theorems for testers speak of something: a valid table with a ring of three and a fourth that waits for it, and case
+-- S with one unit less of budget, in which job 1 gets a 6 that stays true. antt computes both. Assumes nothing.
+use mathlib.Core.List.{[], _∷_}
+use mathlib.Core.Path.{_≡_, refl}
+use Prim.Native.Nat.{_+_, _*_, _<_}
+use Rattle.laws.proofs.Lookups.{each-first}
+use Rattle.steps.proofs.Overtaken.{lacking, six-stays-true}
+use Rattle.steps.proofs.Rings.{OnRing}
+use Rattle.grammar.proofs.Tables.{hold, job, read-valid, table, twoSpeeds}
+use Rattle.rules.specs.Case.{right}
+use Rattle.rules.specs.Plan.{courseOf, cyclesOf, fateBudget, fateIn, fatesOf, planOf, topOf, waitsTimely, runOrder}
+use Rattle.rules.specs.TableText.{Records}
+use Rattle.rules.specs.Valid.{Valid}
+
+abbrev ringed : Records
+ringed =
+    table 0 1000000000000000 twoSpeeds
+    (job 1 100 10 5000 5000 2 ∷ job 2 100 10 5000 5000 3 ∷ job 3 100 10 5000 5000 1 ∷ job 4 100 10 5000 5000 1 ∷ [])
+    (hold 1 1 ∷ hold 2 2 ∷ hold 3 3 ∷ [])
+
+pub ringed-valid : Valid ringed
+unfolding right
+ringed-valid = read-valid ringed refl
+
+pub ring : OnRing (waitsTimely ringed) (job 1 100 10 5000 5000 2)
+unfolding right
+ring = (2, refl)
+
+pub ringed-fates : fatesOf (planOf ringed .fates) ≡ 1 ∷ 1 ∷ 3 ∷ 1 ∷ []
+unfolding right
+ringed-fates = refl
+
+abbrev short : Records
+short =
+    table 0 2499999999 twoSpeeds
+    (job 1 1000 50 3000 3000 0 ∷ job 2 1000 90 2000 2000 1 ∷ job 3 500 10 5000 5000 0 ∷ job 4 2000 40 4000 4000 0
+    ∷ job 5 3000 1 2500 2500 0 ∷ [])
+    (hold 1 3 ∷ [])
+
+pub short-valid : Valid short
+unfolding right
+short-valid = read-valid short refl
+
+pub short-fates : fatesOf (planOf short .fates) ≡ 6 ∷ 1 ∷ 1 ∷ 6 ∷ 2 ∷ []
+unfolding right
+short-fates = refl
+
+short-six : fateIn short (courseOf short) (job 1 1000 50 3000 3000 0) ≡ fateBudget
+unfolding right
+short-six = refl
+
+pub short-stays : 2499999999
+    < (cyclesOf (runOrder short (courseOf short .plan)) + cyclesOf (lacking short (job 1 1000 50 3000 3000 0))) * topOf short .cost
+short-stays = each-first (six-stays-true short short-valid) short-six
