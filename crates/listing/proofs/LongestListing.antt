@@ -5,7 +5,7 @@
 -- its line has at most 9 bytes. One table has the most of all. Assumes nothing.
 use mathlib.Core.Bool.{true}
 use mathlib.Core.List.{List, [], _∷_, _++_, map}
-use mathlib.Core.Path.{_≡_, refl}
+use mathlib.Core.Path.{_≡_, refl, ap, _∙_}
 use Prim.Native.Nat.{ℕ, zero, suc, min, _+_, _-_, _*_, _/_, _^_, _≤_, _<_}
 use native.Mathlib.Nat.{mul-comm, mul-div-le, mul-le-mul, mul-le-mul-right, mul-suc}
 use native.Mathlib.Omega.{arith}
@@ -28,14 +28,14 @@ use Rattle.grammar.proofs.Stopped.{Reached, Stopped, at-item, at-items-end, ref
 use Rattle.grammar.proofs.Tables.{job, speed, table}
 use Rattle.steps.proofs.Fates.{fates-1-to-6}
 use Rattle.laws.proofs.Tests.{both-true, within-true}
-use Rattle.grammar.proofs.Trips.{valid-few-holds}
+use Rattle.grammar.proofs.Trips.{valid-few-holds, text-read}
 use Rattle.rules.specs.Answers.{numberOf}
 use Rattle.rules.specs.Case.{right}
 use Rattle.rules.specs.Costs.{roundedUp}
 use Rattle.rules.specs.Listing.{fateLine, finish, letterO, letterP, letterR, letterX, linesFor, listingOf, orderLine, planLine, planLines, unplanned}
 use Rattle.rules.specs.Lists.{Each, joined, keep, none-left, _and_}
 use Rattle.rules.specs.Plan.{Fated, Run, cyclesOf, energyAt, fatePlanned, fatesOf, planFrom, planOf, runsFrom, runsOf}
-use Rattle.rules.specs.Refusals.{Before, Item, Taken, nothing, one, read, readUpTo, refusedAt, taken, itemsIn}
+use Rattle.rules.specs.Refusals.{Before, Item, Taken, nothing, one, read, readUpTo, refusedAt, taken, itemsIn, takeFrom}
 use Rattle.rules.specs.TableText.{Record, Records, inRange, isCycles, isJobNumber, isRequest, isTime, isWorth, lineText, lined, linesOf, mostCycles, mostJobs, textOf, digitsOf, digitsWithin, mostHolds, mostSpeeds, mostMhz, mostTime, mostCost}
 use Rattle.rules.specs.Valid.{Valid}
 use Rattle.rules.specs.declared.Job.{Job}
@@ -331,6 +331,16 @@ longestListed =
     table (999999999 - cyclesOfOthers / 4) (10 ^ 15) (speed 4000 4000000 ∷ [])
     (longJobs ++ row (λ n. job n 1 1 mostTime mostTime 0) (1000 + others) 4) []
 
-pub longest-listing-length : length (listingOf (textOf longestListed)) ≡ mostListed
+longest-taken : takeFrom 1 nothing (map one (lined longestListed)) ≡ taken longestListed
 unfolding right
-longest-listing-length = refl
+longest-taken = refl
+
+longest-lines : length (linesFor (taken longestListed)) ≡ mostListed
+unfolding right
+longest-lines = refl
+
+pub longest-listing-length : length (listingOf (textOf longestListed)) ≡ mostListed
+unfolding listingOf
+longest-listing-length =
+    let v = taken-exactly 1 (map one (lined longestListed)) longestListed .0 longest-taken .0 in
+    ap (λ k. length (linesFor k)) (text-read v) ∙ longest-lines
