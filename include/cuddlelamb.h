@@ -142,8 +142,9 @@ CUDDLELAMB_SIZE(cuddlelamb_costs_answer, 72);
 
 /* Plans a text. The first `count` places of `order` are the planned jobs' numbers in the order in which they run, and all
  * places after them are 0. The places of `fates` are the fates of the jobs in the order of the J lines, and all places
- * after the last job are 0. `speed` is the lowest speed at which every planned job ends by its termination and the energy
- * is within budget; where nothing is planned, it is the first speed, and the energy is 0.
+ * after the last job are 0. `speed` is, of the speeds at which every planned job ends by its termination and the energy is
+ * within budget, the one with the least energy, and among equals the lowest; where nothing is planned, it is the first speed,
+ * and the energy is 0.
  * Refused, before the text is looked at: 8 with line 0, where `order` or `fates` has fewer than 64 places. Then 1 to 7 as
  * cuddlelamb_read refuses the text. */
 struct cuddlelamb_plan_answer cuddlelamb_plan(const uint8_t *text, size_t text_length, uint64_t *order,

@@ -29,6 +29,15 @@ module _ {A : Type 0} where
   each-at-place d (p and ps) zero h = p
   each-at-place d (p and ps) (suc i) h = each-at-place d ps i (omega arith)
 
+  pub each-of-places : {P : A → Type 0} (d : A) (xs : List A) → ((i : ℕ) → i < length xs → P (getD xs i d)) → Each P xs
+  each-of-places d [] h = none-left
+  each-of-places d (x ∷ xs) h = h 0 (omega arith) and each-of-places d xs (λ i l. h (suc i) (omega arith))
+
+  pub each-last : {P : A → Type 0} (d : A) {xs : List A} → 1 ≤ length xs → Each P xs → P (lastOr d xs)
+  each-last d h none-left = absurd (omega arith)
+  each-last d h (p and none-left) = p
+  each-last d {xs = x ∷ xs} h (p and (q and qs)) = each-last x (omega arith) (q and qs)
+
   pub rising-more : {f : A → ℕ} (d : A) {x : A} {xs : List A} → Rising f xs → f (lastOr d xs) < f x → Rising f (xs ++ x ∷ [])
   rising-more d no-element h = one-element
   rising-more d one-element h = _below_ h one-element

@@ -7,7 +7,7 @@ use mathlib.Core.Path.{_≡_, refl, sym, ap, _∙_}
 use Prim.Native.Nat.{ℕ, suc, _+_, _≤_, _<_}
 use native.Mathlib.Omega.{arith}
 use lib.ListN.{length}
-use Rattle.laws.proofs.Choices.{neither, nothing-there, one-there, or-swap, split}
+use Rattle.laws.proofs.Choices.{clash, neither, nothing-there, one-there, or-swap, split}
 use Rattle.laws.proofs.Tests.{both-true}
 use Rattle.rules.specs.Lists.{Each, all, any, find, keep, none-left, putIn, sorted, total, _and_}
 
@@ -29,6 +29,17 @@ module _ {A : Type 0} where
   pub each-keep : {P : A → Type 0} (p : A → Bool) {xs : List A} → Each P xs → Each P (keep p xs)
   each-keep p none-left = none-left
   each-keep p {xs = x ∷ xs} (h and hs) = split (p x) (λ g. rw g (h and each-keep p hs)) (λ g. rw g (each-keep p hs))
+
+  pub each-kept : {P : A → Type 0} (p : A → Bool) {xs : List A} → Each (λ x. p x ≡ true → P x) xs → Each P (keep p xs)
+  each-kept p none-left = none-left
+  each-kept p {xs = x ∷ xs} (h and hs) = split (p x) (λ g. rw g (h g and each-kept p hs)) (λ g. rw g (each-kept p hs))
+
+  pub kept-each : {P : A → Type 0} (p : A → Bool) (xs : List A) → Each P (keep p xs) → Each (λ x. p x ≡ true → P x) xs
+  kept-each p [] e = none-left
+  kept-each {P} p (x ∷ xs) e =
+      split (p x)
+      (λ g. let both : Each P (x ∷ keep p xs) = rw g at e in (λ h. each-first both) and kept-each p xs (each-rest both))
+      (λ g. (λ h. clash h g) and kept-each p xs (rw g at e))
 
   pub keep-passes : (p : A → Bool) (xs : List A) → Each (λ x. p x ≡ true) (keep p xs)
   keep-passes p [] = none-left

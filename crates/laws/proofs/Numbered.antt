@@ -43,6 +43,15 @@ module _ {A : Type 0} (f : A → ℕ) (d : A) where
   later-greater (x ∷ xs) r zero (suc q) l h = first-least r q (omega arith)
   later-greater (x ∷ xs) r (suc p) (suc q) l h = later-greater xs (rising-others r) p q (omega arith) (omega arith)
 
+  -- of two, the lower stands first
+  pub lower-first : (xs : List A) → Rising f xs → (p q : ℕ) → p < length xs → f (getD xs p d) < f (getD xs q d) → p < q
+  lower-first xs r p q h l =
+      ⊎-elim
+      (λ (m : p < q). m)
+      (⊎-elim (λ (e : p ≡ q). absurd (omega (arith, ap (λ i. f (getD xs i d)) e)))
+      (λ (m : q < p). absurd (omega (arith, later-greater xs r q p m h))))
+      (less-equal-or-greater p q)
+
 less-not-equal : (m n : ℕ) → m < n → eqb m n ≡ false
 less-not-equal m n l = ne-eqb m n (λ (e : m ≡ n). omega arith)
 

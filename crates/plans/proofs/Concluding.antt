@@ -55,7 +55,7 @@ module _ (speeds : List Speed) (speed-count : ℕ) (cycles termination : List �
     decided = λ t valid of by.
         let jobs : jobsAt (t .jobs) planned ≡ planOf t .jobs = by .jobs ∙ sym (jobs-planned t) in
         let found : chosen .speed ≡ planOf t .speed =
-        by-rule .speed t of ∙ speed-planned t (jobsAt (t .jobs) planned) jobs in
+        by-rule .speed t valid of ∙ speed-planned t (jobsAt (t .jobs) planned) jobs in
         record {
           placed = placed;
           jobs = jobs;

@@ -12,7 +12,7 @@ use Rattle.rules.specs.Costs.{roundedUp}
 use Rattle.rules.specs.Cycles.{allocated, allocation, askedInRange, enough, leastFrom}
 use Rattle.rules.specs.Listing.{fateLine, finish, linesFor, listing, listingOf, orderLine, planLine, planLines, unplanned}
 use Rattle.rules.specs.Lists.{all, joined}
-use Rattle.rules.specs.Plan.{AfterPlanning, after, asksFor, before, begin, awaited, chainOf, course, courseOf, cyclesOf, endsBy, endsInTime, endsLate, energyAt, equal, fateIn, fatesOf, follow, gives, goesBefore, goesRather, holderIn, inPlan, farEndFirst, inTime, insert, isOf, jobsOf, judge, lateIn, leavesAll, leavesOf, leavesPlan, left, less, member, memberFound, memberNew, memberPlanned, members, numbersOf, onRing, ownFate, partOf, planFrom, planOf, planning, planningOfUpTo, qualifies, ratioOf, remove, runOrder, runsFrom, runsOf, same, speedFor, speedOr, noTurnYet, staysBelow, leavesItsRing, leavesRing, timely, fateTold, tooDear, tooSmallUpTo, topOf, trial, turn, turnOf, turns, waitsFor, waitsLeft, waitsTimely, weightIn, ratioZero}
+use Rattle.rules.specs.Plan.{AfterPlanning, after, asksFor, before, begin, awaited, chainOf, course, courseOf, cyclesOf, endsBy, endsInTime, endsLate, energyAt, equal, fateIn, fatesOf, follow, gives, goesBefore, goesRather, holderIn, inPlan, farEndFirst, inTime, insert, isOf, jobsOf, judge, lateIn, leavesAll, leavesOf, leavesPlan, left, less, leastEnergy, member, memberFound, memberNew, memberPlanned, members, numbersOf, onRing, ownFate, partOf, planFrom, planOf, planning, planningOfUpTo, qualifies, ratioOf, remove, runOrder, runsFrom, runsOf, same, speedFor, speedOr, noTurnYet, staysBelow, leavesItsRing, leavesRing, timely, fateTold, tooDear, tooSmallUpTo, topOf, trial, turn, turnOf, turns, waitsFor, waitsLeft, waitsTimely, weightIn, ratioZero}
 use Rattle.rules.specs.Refusals.{AfterWriting, Before, Item, Judged, Taken, accept, acceptUpTo, accepted, added, andThen, asksOwn, atEnd, beyond, check, checkUpTo, criticalAfter, faultOfUpTo, holdItems, isHolder, itemsIn, itemShaped, itemsOfUpTo, jobItemsUpTo, judged, mayStand, nothing, outOfOrder, outOfRange, ownRequest, readUpTo, reading, readingUpTo, refusedAt, refusedFor, refusedOut, rises, speedItems, takeFromUpTo, taken, tableAnswerUpTo, tooManyUpTo, unknownJob, writing, written, writtenOf}
 use Rattle.rules.specs.TableText.{andMore, digitsOf, digitsWithin, fieldsOf, fieldsRecord, inRange, isBudget, isCost, isCycles, isDigit, isJobNumber, isMhz, isNumber, isRequest, isResource, isTime, isWorth, leadingZero, lineText, lined, linesOf, numberIn, numbersIn, ontoFirst, partedBy, recordOf, recordText, recordsOf, shapeOf, tableOfUpTo, textOf, valueFrom, withNumbers, fieldCount, letterRecord}
 use Rattle.rules.specs.declared.Hold.{Hold}
@@ -117,7 +117,7 @@ samePlanning a b = sameAnswer (a .answer) (b .answer) && alike (a .order) (b .or
 
 -- the rules give what the case wants; every rule opens here
 unfoldable pub right : Case → Bool
-unfolding bytes charAmong shown numberThen answersFrom judgedIn numberAndLine checkedIn placesOf readIn ontoFirst partedBy linesOf fieldsOf isDigit leadingZero isNumber valueFrom numberIn andMore numbersIn fieldCount letterRecord recordOf withNumbers fieldsRecord shapeOf isTime isBudget isMhz isCost isJobNumber isCycles isWorth isResource isRequest inRange recordsOf tableOfUpTo digitsWithin digitsOf lineText recordText lined textOf nothing itemShaped itemsIn outOfRange mayStand rises outOfOrder tooManyUpTo criticalAfter isHolder unknownJob asksOwn ownRequest faultOfUpTo added judged acceptUpTo atEnd andThen takeFromUpTo readUpTo beyond speedItems jobItemsUpTo holdItems itemsOfUpTo checkUpTo tableAnswerUpTo readingUpTo refusedOut written writtenOf writing topOf endsBy cyclesOf runsFrom runsOf endsInTime same less equal lateIn timely asksFor holderIn waitsFor follow awaited weightIn goesRather onRing leavesRing waitsTimely leavesItsRing left waitsLeft chainOf farEndFirst gives ratioOf turnOf before turns jobsOf isOf inPlan goesBefore insert remove staysBelow memberPlanned memberNew memberFound member members begin trial runOrder inTime endsLate tooDear judge ratioZero turn after course noTurnYet courseOf fateTold ownFate fateIn energyAt qualifies speedOr speedFor planFrom planOf numbersOf fatesOf leavesPlan partOf leavesAll leavesOf tooSmallUpTo planningOfUpTo askedInRange enough leastFrom allocated allocation roundedUp finish planLine orderLine unplanned fateLine planLines linesFor listingOf listing
+unfolding bytes charAmong shown numberThen answersFrom judgedIn numberAndLine checkedIn placesOf readIn ontoFirst partedBy linesOf fieldsOf isDigit leadingZero isNumber valueFrom numberIn andMore numbersIn fieldCount letterRecord recordOf withNumbers fieldsRecord shapeOf isTime isBudget isMhz isCost isJobNumber isCycles isWorth isResource isRequest inRange recordsOf tableOfUpTo digitsWithin digitsOf lineText recordText lined textOf nothing itemShaped itemsIn outOfRange mayStand rises outOfOrder tooManyUpTo criticalAfter isHolder unknownJob asksOwn ownRequest faultOfUpTo added judged acceptUpTo atEnd andThen takeFromUpTo readUpTo beyond speedItems jobItemsUpTo holdItems itemsOfUpTo checkUpTo tableAnswerUpTo readingUpTo refusedOut written writtenOf writing topOf endsBy cyclesOf runsFrom runsOf endsInTime same less equal lateIn timely asksFor holderIn waitsFor follow awaited weightIn goesRather onRing leavesRing waitsTimely leavesItsRing left waitsLeft chainOf farEndFirst gives ratioOf turnOf before turns jobsOf isOf inPlan goesBefore insert remove staysBelow memberPlanned memberNew memberFound member members begin trial runOrder inTime endsLate tooDear judge ratioZero turn after course noTurnYet courseOf fateTold ownFate fateIn energyAt qualifies speedOr leastEnergy speedFor planFrom planOf numbersOf fatesOf leavesPlan partOf leavesAll leavesOf tooSmallUpTo planningOfUpTo askedInRange enough leastFrom allocated allocation roundedUp finish planLine orderLine unplanned fateLine planLines linesFor listingOf listing
 right (lists text want) = alike (listingOf (bytes text)) (bytes want)
 right (allocates mean variance assurance want) = sameAnswer (allocation mean variance assurance) want
 right (judges js) = alike (judgedIn js) (map (λ (j : Judging). j .number) js)

@@ -72,9 +72,10 @@ cases =
     -- Job 1 ends late after 3, so that its chain gives nothing. The late job 2 holds what 3 asks for: 3 waits for nobody.
     ∷ lists "T\t100\t10000\nF\t500\t12\nF\t800\t9\nF\t1000\t10\nJ\t1\t500\t20\t0\t800\t3\nJ\t2\t400\t1\t0\t200\t3\nJ\t3\t300\t0\t200\t1200\t2\nH\t1\t3\nH\t2\t2\nH\t3\t3\nH\t4\t3\n"
     "P\t500\t0\t0\nX\t1\t4\nX\t2\t2\nX\t3\t4\n"
-    -- A ring of 1 and 3: 1 has more worth and far more cycles, and goes. Then 2 and 3 have equal ratios.
+    -- A ring of 1 and 3: 1 has more worth and far more cycles, and goes. Then 2 and 3 have equal ratios. 500 MHz would do and
+    -- costs more.
     ∷ lists "T\t1000\t8000\nF\t500\t12\nF\t800\t9\nF\t1000\t10\nJ\t1\t500\t5\t800000\t800000\t2\nJ\t2\t400\t200\t2900\t3100\t3\nJ\t3\t2\t1\t2900\t2900\t1\nH\t1\t1\nH\t2\t3\n"
-    "P\t500\t4824\t2\nO\t3\t1004\nO\t2\t1804\nX\t1\t3\n"
+    "P\t800\t3618\t2\nO\t3\t1003\nO\t2\t1503\nX\t1\t3\n"
     -- A new member lowers the limit to its critical time; a member that is moved takes the limit as its key.
     ∷ lists "T\t700\t12000\nF\t500\t7\nF\t1000\t10\nJ\t1\t200\t0\t700\t1700\t4\nJ\t2\t100\t20\t2600\t2800\t1\nJ\t3\t200\t1\t100\t1100\t4\nJ\t4\t100\t2\t1400\t1400\t2\nJ\t5\t100\t20\t900\t900\t0\nH\t1\t3\nH\t2\t3\nH\t3\t1\nH\t4\t5\n"
     "P\t1000\t7000\t5\nO\t5\t800\nO\t3\t1000\nO\t1\t1200\nO\t4\t1300\nO\t2\t1400\n"
@@ -84,6 +85,9 @@ cases =
     -- A member that stays lowers the limit for the next.
     ∷ lists "T\t700\t1000000\nF\t500\t12\nF\t800\t9\nF\t1000\t10\nJ\t1\t200\t5\t2600\t3100\t0\nJ\t2\t300\t40\t1700\t1700\t1\nJ\t3\t500\t2\t2300\t2800\t3\nJ\t4\t400\t20\t1700\t1900\t0\nJ\t5\t100\t20\t1600\t1600\t0\nH\t1\t1\nH\t2\t3\nH\t3\t2\nH\t4\t2\n"
     "P\t1000\t15000\t5\nO\t5\t800\nO\t1\t1000\nO\t4\t1400\nO\t2\t1700\nO\t3\t2200\n"
+    -- 400 MHz is the cheapest and late by 500 ms; 500 MHz ends in time exactly, and costs most; 800 and 900 MHz cost the same.
+    ∷ lists "T\t0\t12000\nF\t400\t5\nF\t500\t12\nF\t800\t9\nF\t900\t9\nF\t1000\t10\nJ\t1\t1000\t1\t2000\t2000\t0\n"
+    "P\t800\t9000\t1\nO\t1\t1250\n"
     -- Every condition of a line, at the ends of its range.
     ∷ judges
     (line "\n" 1
@@ -218,4 +222,4 @@ cases =
 
 pub cases-right : AllRight cases
 unfolding cases wrong
-cases-right = (refl, (refl, (refl, (refl, (refl, (refl, (refl, (refl, (refl, (refl, (refl, (refl, tt))))))))))))
+cases-right = (refl, (refl, (refl, (refl, (refl, (refl, (refl, (refl, (refl, (refl, (refl, (refl, (refl, tt)))))))))))))

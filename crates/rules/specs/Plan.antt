@@ -314,8 +314,8 @@ fateIn t c j =
     (cond (leavesItsRing t j) fateDeadlock
     (cond (inPlan j (c .plan)) fatePlanned (ownFate j c)))
 
--- 9. Speed. "The lowest speed at which every entry still ends by its termination and all cycles × that speed's cost are
--- within budget." The speeds rise: the lowest is the first. Of an empty plan every speed qualifies, at energy 0.
+-- 9. Speed. A speed qualifies "at which every entry still ends by its termination and all cycles × that speed's cost are
+-- within budget".
 unfoldable pub energyAt : Speed → List Job → ℕ
 energyAt f js = cyclesOf js * f .cost
 
@@ -327,8 +327,15 @@ unfoldable pub speedOr : Option Speed → Speed
 speedOr none = noSpeed
 speedOr (some f) = f
 
+-- "the one with the least energy": none of these speeds has less
+unfoldable pub leastEnergy : List Job → List Speed → Speed → Bool
+leastEnergy js fs f = all (λ g. leb (energyAt f js) (energyAt g js)) fs
+
+-- Changed by document 02's A1, where 01 says "The lowest speed": "among the speeds that qualify, the one with the least
+-- energy, and among equals the lowest". The speeds rise: the lowest is the first. Of an empty plan every speed qualifies, all
+-- at energy 0: "An empty plan takes the first speed and energy 0."
 unfoldable pub speedFor : Records → List Job → Speed
-speedFor t js = speedOr (find (qualifies t js) (t .speeds))
+speedFor t js = let fs = keep (qualifies t js) (t .speeds) in speedOr (find (leastEnergy js fs) fs)
 
 -- The decision: the jobs in the plan's order, a fate for each job of the table, the speed. "The energy is that product."
 pub record Plan : Type 0 where

@@ -26,9 +26,9 @@ sheet =
     -- budget 800000000: fate 6
     ∷ lists "T\t0\t800000000\nF\t500\t700000\nF\t1000\t1000000\nJ\t1\t1000\t1\t2000\t2000\t0\n"
     "P\t500\t0\t0\nX\t1\t6\n"
-    -- model 3's speeds: speed 550
+    -- model 3's speeds: speed 820, by document 02's A1
     ∷ lists "T\t0\t1200000000\nF\t360\t1453689\nF\t550\t1060341\nF\t640\t986050\nF\t730\t951382\nF\t820\t945957\nF\t910\t963501\nF\t1000\t1000000\nJ\t1\t1000\t1\t3000\t3000\t0\n"
-    "P\t550\t1060341000\t1\nO\t1\t1819\n"
+    "P\t820\t945957000\t1\nO\t1\t1220\n"
     -- a ring of two
     ∷ lists "T\t0\t2500000000\nF\t500\t700000\nF\t1000\t1000000\nJ\t1\t100\t10\t5000\t5000\t2\nJ\t2\t100\t10\t5000\t5000\t1\nH\t1\t1\nH\t2\t2\n"
     "P\t500\t70000000\t1\nO\t1\t200\nX\t2\t3\n"

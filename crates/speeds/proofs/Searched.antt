@@ -1,32 +1,28 @@
--- Step 9 by a search: no speed passed qualifies, so that the first which does is the one that the rules find. What is
--- reckoned of a speed is what the rules ask of it. Assumes nothing.
-use mathlib.Core.Bool.{Bool, true, false, _&&_}
+-- The speeds of a valid table rise, and faster is never later: what is found of one speed holds of all on one side of it. Of
+-- the speeds in time the cheapest is step 9's, if it is within budget; if it is over, so are all. Assumes nothing.
+use mathlib.Core.Bool.{true, false}
 use mathlib.Core.List.{List}
-use mathlib.Core.Option.{none, some}
-use mathlib.Core.Path.{_≡_, refl, sym, ap, _∙_}
-use Prim.Native.Nat.{ℕ, _+_, _*_, _≤_, _<_}
+use mathlib.Core.Path.{_≡_, sym, ap, _∙_}
+use Prim.Native.Nat.{ℕ, _*_, _≤_, _<_}
 use native.Mathlib.Nat.{mul-zero}
-use native.Mathlib.Numerals.{add-one}
 use native.Mathlib.Omega.{arith}
-use borrow.Author.Tests.{le-leb, lt-leb}
-use lib.Dec.{leb}
-use lib.ListN.{drop, drop-of-length-le, getD, length, take}
-use lib.Seq.{drop-cons, getD-take, length-take-le}
-use Rattle.rules.specs.Lists.{find}
-use Rattle.rules.specs.Plan.{cyclesOf, energyAt, inTime, qualifies, speedFor, speedOr}
+use borrow.Author.Tests.{eqb-false, eqb-true, le-leb, lt-leb, ltb-false, ltb-true}
+use lib.Dec.{eqb, leb, ltb}
+use lib.ListN.{getD, length, take}
+use lib.Seq.{getD-take, length-take-le}
+use Rattle.grammar.proofs.Ranges.{SpeedRanges, speed-ranges}
+use Rattle.laws.proofs.Choices.{clash, split}
+use Rattle.laws.proofs.Elements.{each-at-place}
+use Rattle.laws.proofs.Numbered.{later-greater}
+use Rattle.laws.proofs.Tests.{both-true, not-true-false}
+use Rattle.rules.specs.Plan.{cyclesOf, energyAt, inTime, qualifies, speedFor}
 use Rattle.rules.specs.TableText.{Records, noSpeed}
+use Rattle.rules.specs.Valid.{Valid}
 use Rattle.rules.specs.declared.Job.{Job}
 use Rattle.rules.specs.declared.Speed.{Speed}
-
-module _ {A : Type 0} (p : A → Bool) (xs : List A) (d : A) (i : ℕ) where
-  find-here : i < length xs → p (getD xs i d) ≡ true → find p (drop i xs) ≡ some (getD xs i d)
-  find-here h e = rw (drop-cons xs i d h) (rw e)
-
-  find-on : i < length xs → p (getD xs i d) ≡ false → find p (drop i xs) ≡ find p (drop (i + 1) xs)
-  find-on h e = rw (drop-cons xs i d h, add-one i) (rw e)
-
-  find-ends : length xs ≤ i → find p (drop i xs) ≡ none
-  find-ends h = rw (drop-of-length-le xs {i = i} h)
+use Rattle.speeds.specs.Promises.{CheapestFrom}
+use Rattle.steps.proofs.Cheapest.{cheapest-taken, none-taken}
+use Rattle.steps.proofs.Faster.{faster-in-time, slower-late}
 
 -- the energy is a product
 pub energy-reckoned : (js : List Job) (f : Speed) (total : ℕ) → total ≡ cyclesOf js → total * f .cost ≡ energyAt f js
@@ -37,56 +33,115 @@ pub no-speed-no-energy : (js : List Job) → 0 ≡ energyAt noSpeed js
 unfolding energyAt
 no-speed-no-energy js = sym (mul-zero (cyclesOf js))
 
--- over the budget, no speed qualifies
-not-in-budget : (timely : Bool) (energy budget : ℕ) → budget < energy → false ≡ timely && leb energy budget
-not-in-budget true energy budget h = rw (lt-leb energy budget h)
-not-in-budget false energy budget h = refl
-
--- within it, those do at which all end in time
-in-budget : (timely : Bool) (energy budget : ℕ) → energy ≤ budget → timely ≡ timely && leb energy budget
-in-budget true energy budget h = rw (le-leb energy budget h)
-in-budget false energy budget h = refl
-
-module _ (t : Records) (speed : Speed) (js : List Job) (energy budget : ℕ) (of : energy ≡ energyAt speed js)
-    (budget-of : budget ≡ t .budget) where
-  pub dear : budget < energy → false ≡ qualifies t js speed
+module _ (t : Records) (js : List Job) (f : Speed) where
+  late-not-qualified : inTime (t .clock) (f .mhz) js ≡ false → qualifies t js f ≡ false
   unfolding qualifies
-  dear h = not-in-budget (inTime (t .clock) (speed .mhz) js) _ _ (rw (of, budget-of) at h)
+  late-not-qualified e = rw e
 
-  pub affordable : (r : Bool) → energy ≤ budget → r ≡ inTime (t .clock) (speed .mhz) js → r ≡ qualifies t js speed
+  dear-not-qualified : t .budget < energyAt f js → qualifies t js f ≡ false
   unfolding qualifies
-  affordable r h q = q ∙ in-budget (inTime (t .clock) (speed .mhz) js) _ _ (rw (of, budget-of) at h)
+  dear-not-qualified l =
+      not-true-false (qualifies t js f)
+      (λ q. clash (both-true (inTime (t .clock) (f .mhz) js) (leb (energyAt f js) (t .budget)) q .1) (lt-leb (energyAt f js) (t .budget) l))
 
--- the speed is among those from k on
-abbrev pub SpeedsLeft : Records → List Job → List Speed → ℕ → Type 0
-SpeedsLeft t js speeds k = find (qualifies t js) (drop k speeds) ≡ find (qualifies t js) speeds
+  in-time-and-budget : inTime (t .clock) (f .mhz) js ≡ true → energyAt f js ≤ t .budget → qualifies t js f ≡ true
+  unfolding qualifies
+  in-time-and-budget e l = rw e (le-leb (energyAt f js) (t .budget) l)
 
-module _ (t : Records) (speeds : List Speed) (count : ℕ) (js : List Job) (i : ℕ) (places : count ≤ length speeds) where
-  here : i < count → getD (take count speeds) i noSpeed ≡ getD speeds i noSpeed
-  here h = getD-take count speeds i noSpeed h
+module _ (t : Records) (valid : Valid t) (speeds : List Speed) (count : ℕ) (places : count ≤ length speeds)
+    (of : take count speeds ≡ t .speeds) (js : List Job) where
+  abbrev at : ℕ → Speed
+  at i = getD speeds i noSpeed
 
-  inside : i < count → i < length (take count speeds)
-  inside h = omega (arith, length-take-le count speeds places)
+  as-many : length (t .speeds) ≡ count
+  as-many = ap length (sym of) ∙ length-take-le count speeds places
 
-  pub passed-over : i < count → qualifies t js (getD speeds i noSpeed) ≡ false
-      → SpeedsLeft t js (take count speeds) i → SpeedsLeft t js (take count speeds) (i + 1)
-  passed-over h e same =
-      sym (find-on (qualifies t js) (take count speeds) noSpeed i (inside h) (ap (qualifies t js) (here h) ∙ e)) ∙ same
+  of-table : (i : ℕ) → i < count → getD (t .speeds) i noSpeed ≡ at i
+  of-table i h = ap (λ fs. getD fs i noSpeed) (sym of) ∙ getD-take count speeds i noSpeed h
 
-  pub first-qualifies : i < count → take count speeds ≡ t .speeds → qualifies t js (getD speeds i noSpeed) ≡ true
-      → SpeedsLeft t js (take count speeds) i → getD speeds i noSpeed ≡ speedFor t js
-  unfolding speedFor speedOr
-  first-qualifies h q e same =
-      sym (here h)
-      ∙ ap speedOr
-      (sym (find-here (qualifies t js) (take count speeds) noSpeed i (inside h) (ap (qualifies t js) (here h) ∙ e))
-      ∙ same
-      ∙ ap (find (qualifies t js)) q)
+  runs : (i : ℕ) → i < count → 1 ≤ at i .mhz
+  runs i h =
+      let r : SpeedRanges (getD (t .speeds) i noSpeed) =
+      speed-ranges (getD (t .speeds) i noSpeed) (each-at-place noSpeed (valid .speed-ranges) i (omega (arith, as-many))) in
+      rw (of-table i h) at (r .mhz-from)
 
-  pub none-qualifies : count ≤ i → take count speeds ≡ t .speeds → SpeedsLeft t js (take count speeds) i → noSpeed ≡ speedFor t js
-  unfolding speedFor speedOr
-  none-qualifies h q same =
-      ap speedOr
-      (sym (find-ends (qualifies t js) (take count speeds) noSpeed i (omega (arith, length-take-le count speeds places)))
-      ∙ same
-      ∙ ap (find (qualifies t js)) q)
+  no-slower : (i k : ℕ) → i ≤ k → k < count → at i .mhz ≤ at k .mhz
+  no-slower i k l h =
+      split (eqb i k)
+      (λ e. rw (eqb-true i k e) (omega arith))
+      (λ e.
+      let less : getD (t .speeds) i noSpeed .mhz < getD (t .speeds) k noSpeed .mhz =
+      later-greater (λ (f : Speed). f .mhz) noSpeed (t .speeds) (valid .speeds-rise) i k (omega (arith, eqb-false i k e)) (omega (arith, as-many)) in
+      let here : at i .mhz < at k .mhz = rw (of-table i (omega arith), of-table k h) at less in
+      omega arith)
+
+  pub in-time-above : (i k : ℕ) → i ≤ k → k < count → inTime (t .clock) (at i .mhz) js ≡ true
+      → inTime (t .clock) (at k .mhz) js ≡ true
+  in-time-above i k l h = faster-in-time (t .clock) (at i .mhz) (at k .mhz) (runs i (omega arith)) (no-slower i k l h) js
+
+  pub late-below : (i k : ℕ) → i ≤ k → k < count → inTime (t .clock) (at k .mhz) js ≡ false
+      → inTime (t .clock) (at i .mhz) js ≡ false
+  late-below i k l h = slower-late (t .clock) (at i .mhz) (at k .mhz) (runs i (omega arith)) (no-slower i k l h) js
+
+  -- no speed qualifies where each is late or over the budget
+  none-found : ((i : ℕ) → i < count → qualifies t js (at i) ≡ false) → noSpeed ≡ speedFor t js
+  none-found h = none-taken t js (λ i l. rw (of-table i (omega (arith, as-many))) (h i (omega (arith, as-many))))
+
+  pub all-late : ((i : ℕ) → i < count → inTime (t .clock) (at i .mhz) js ≡ false) → noSpeed ≡ speedFor t js
+  all-late h = none-found (λ i l. late-not-qualified t js (at i) (h i l))
+
+  module _ (first total r : ℕ) (sum : total ≡ cyclesOf js) (some-in-time : first < count)
+      (late-before : (i : ℕ) → i < first → inTime (t .clock) (at i .mhz) js ≡ false)
+      (in-time-from : (i : ℕ) → first ≤ i → i < count → inTime (t .clock) (at i .mhz) js ≡ true)
+      (cheapest : CheapestFrom speeds count first total r) where
+    energy-of : (i : ℕ) → total * at i .cost ≡ energyAt (at i) js
+    energy-of i = energy-reckoned js (at i) total sum
+
+    -- what qualifies is in time, and so from the first on
+    qualified-from : (i : ℕ) → qualifies t js (at i) ≡ true → first ≤ i
+    qualified-from i q =
+        split (ltb i first)
+        (λ l. clash q (late-not-qualified t js (at i) (late-before i (ltb-true i first l))))
+        (λ l. ltb-false i first l)
+
+    pub over-budget : t .budget < total * at r .cost → noSpeed ≡ speedFor t js
+    over-budget dear =
+        none-found (λ i h.
+        split (ltb i first)
+        (λ l. late-not-qualified t js (at i) (late-before i (ltb-true i first l)))
+        (λ l.
+        dear-not-qualified t js (at i)
+        (rw (energy-of i) at (dearer i (cheapest .none-less i (ltb-false i first l) h)))))
+      where
+        dearer : (i : ℕ) → total * at r .cost ≤ total * at i .cost → t .budget < total * at i .cost
+        dearer i l = omega arith
+
+    pub in-budget : total * at r .cost ≤ t .budget → at r ≡ speedFor t js
+    in-budget l =
+        sym (of-table r there)
+        ∙ cheapest-taken t js r
+        (record {
+          inside = omega (arith, as-many, there);
+          passes = rw (of-table r there) (in-time-and-budget t js (at r) (in-time-from r (cheapest .from-first) there) (rw (energy-of r) at l));
+          none-less = λ i h q. no-less i (omega (arith, as-many)) q;
+          before-more = λ i h q. more i h q;
+        })
+      where
+        there : r < count
+        there = cheapest .inside some-in-time
+
+        qualified : (i : ℕ) → i < count → qualifies t js (getD (t .speeds) i noSpeed) ≡ true → first ≤ i
+        qualified i h q = qualified-from i (rw (of-table i h) at q)
+
+        no-less : (i : ℕ) → i < count → qualifies t js (getD (t .speeds) i noSpeed) ≡ true
+            → energyAt (getD (t .speeds) r noSpeed) js ≤ energyAt (getD (t .speeds) i noSpeed) js
+        no-less i h q =
+            rw (of-table r there, of-table i h)
+            (rw (energy-of r, energy-of i) at (cheapest .none-less i (qualified i h q) h))
+
+        more : (i : ℕ) → i < r → qualifies t js (getD (t .speeds) i noSpeed) ≡ true
+            → energyAt (getD (t .speeds) r noSpeed) js < energyAt (getD (t .speeds) i noSpeed) js
+        more i h q =
+            let before : i < count = omega (arith, there) in
+            rw (of-table r there, of-table i before)
+            (rw (energy-of r, energy-of i) at (cheapest .before-more i (qualified i before q) h))

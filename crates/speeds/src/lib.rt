@@ -1,12 +1,11 @@
-// Step 9 of "From jobs to a plan": the speed that a plan is run at, and the energy.
+// Step 9 of "From jobs to a plan", by document 02's A1: the speed that a plan is run at, and the energy.
 use columns::Terms;
 use entries::in_time;
 use entries::total_cycles;
 use rules::MOST_JOBS;
 use rules::MOST_SPEEDS;
 use rules::Speed;
-ghost use Rattle.entries.specs.Promises.{Timeable};
-ghost use Rattle.speeds.specs.Promises.{Choosable, ChosenSpeed, Qualifies};
+ghost use Rattle.speeds.specs.Promises.{CheapestFrom, Choosable, ChosenSpeed, EnergiesInRange, FirstInTime};
 
 // The speed of a plan, and its energy.
 pub struct Chosen {
@@ -14,26 +13,59 @@ pub struct Chosen {
     pub energy: u64,
 }
 
-// Step 9, "at which every entry still ends by its termination and all cycles × that speed's cost are within budget":
-// `energy` is that product.
-fn qualifies<'a>(
-    speed: Speed,
-    energy: u64,
+// Faster is never later, so that the first speed at which every entry ends by its termination is found by halving: at each
+// speed before `low` some entry ends late, from `high` on none does. The lowest speed is tried first, for where there is time
+// enough it is the one. Where no speed is in time, the count of speeds.
+fn first_in_time<'a>(
+    speeds: [Speed; MOST_SPEEDS],
+    speed_count: usize,
     places: &[u64],
     cycles: &'a [u64; MOST_JOBS],
     termination: &'a [u64; MOST_JOBS],
     terms: Terms,
-) -> bool
-    requires { ⌜ Timeable (now places) (now cycles) (now termination) (terms .clock) (speed .mhz) ⌝ }
-    ensures { λ r. ⌜ Qualifies speed energy (now (places .entry)) (now (cycles .entry)) (now (termination .entry)) terms r ⌝ }
+) -> usize
+    requires { ⌜ Choosable speeds «speed_count» (now places) (now cycles) (now termination) terms ⌝ }
+    ensures { λ r. ⌜ FirstInTime speeds «speed_count» (now (places .entry)) (now (cycles .entry)) (now (termination .entry)) terms r ⌝ }
 {
-    if terms.budget < energy {
-        return false;
+    let mut low = 0;
+    let mut high = speed_count;
+    let mut tried = 0;
+    while low < high {
+        let speed = speeds[tried];
+        if in_time(places, cycles, termination, terms.clock, speed.mhz) {
+            high = tried;
+        } else {
+            low = tried + 1;
+        }
+        tried = low + (high - low) / 2;
     }
-    in_time(places, cycles, termination, terms.clock, speed.mhz)
+    low
 }
 
-// Step 9, "The lowest speed": they rise, so that it is the first that qualifies. "The energy is that product."
+// "the one with the least energy, and among equals the lowest", of the speeds from `first` on: a higher one takes the place only
+// where it has less. So an empty plan, whose energy is 0 at every speed, stays at `first`.
+fn cheapest_from(
+    speeds: [Speed; MOST_SPEEDS],
+    speed_count: usize,
+    first: usize,
+    total: u64,
+) -> usize
+    requires { ⌜ EnergiesInRange speeds «speed_count» total ⌝ }
+    ensures { λ r. ⌜ CheapestFrom speeds «speed_count» first total r ⌝ }
+{
+    let mut cheapest = first;
+    for i in first..speed_count {
+        let speed = speeds[i];
+        let least = speeds[cheapest];
+        if total * speed.cost < total * least.cost {
+            cheapest = i;
+        }
+    }
+    cheapest
+}
+
+// Step 9: "among the speeds that qualify". Those in time are the last ones; if the cheapest of them is over the budget, all are.
+// "The energy is that product."
 pub fn choose_speed<'a>(
     speeds: [Speed; MOST_SPEEDS],
     speed_count: usize,
@@ -45,18 +77,20 @@ pub fn choose_speed<'a>(
     requires { ⌜ Choosable speeds «speed_count» (now places) (now cycles) (now termination) terms ⌝ }
     ensures { λ r. ⌜ ChosenSpeed speeds «speed_count» (now (places .entry)) (now (cycles .entry)) (now (termination .entry)) terms r ⌝ }
 {
-    let total = total_cycles(places, cycles);
-    let mut i = 0;
-    while i < speed_count {
-        let speed = speeds[i];
-        let energy = total * speed.cost;
-        if qualifies(speed, energy, places, cycles, termination, terms) {
-            return Chosen { speed, energy };
-        }
-        i += 1;
-    }
-    Chosen {
+    let none = Chosen {
         speed: Speed { mhz: 0, cost: 0 },
         energy: 0,
+    };
+    let first = first_in_time(speeds, speed_count, places, cycles, termination, terms);
+    if first == speed_count {
+        return none;
     }
+    let total = total_cycles(places, cycles);
+    let cheapest = cheapest_from(speeds, speed_count, first, total);
+    let speed = speeds[cheapest];
+    let energy = total * speed.cost;
+    if terms.budget < energy {
+        return none;
+    }
+    Chosen { speed, energy }
 }

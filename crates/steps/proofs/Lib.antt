@@ -9,6 +9,8 @@ mod Trials
 pub mod RunOrder
 pub mod Course
 mod Totals
+pub mod Faster
+pub mod Cheapest
 pub mod Speeds
 pub mod Planned
 pub mod Overtaken

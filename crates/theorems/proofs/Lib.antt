@@ -5,6 +5,7 @@ pub mod Demand3
 mod Again
 mod Demand3Instance
 mod Demand3Needed
+mod SpeedRules
 mod Testers
 mod TestersInstance
 mod NotTrue

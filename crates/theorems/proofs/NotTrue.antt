@@ -1,12 +1,12 @@
 -- What is not true of the rules, each with a table that shows it. Nobody may rely on these, and no promise says them. antt
 -- computes the plans; each table is one that the reader takes. Assumes nothing.
-use mathlib.Core.Bool.{false}
+use mathlib.Core.Bool.{true, false}
 use mathlib.Core.List.{[], _∷_}
 use mathlib.Core.Path.{_≡_, refl}
 use Prim.Native.Nat.{ℕ}
 use Rattle.grammar.proofs.Tables.{hold, job, read-valid, speed, table}
 use Rattle.rules.specs.Case.{right}
-use Rattle.rules.specs.Plan.{courseOf, endsLate, energyAt, fatesOf, numbersOf, planOf, tooDear, topOf, trial, turnOf}
+use Rattle.rules.specs.Plan.{courseOf, endsLate, fatesOf, numbersOf, planOf, qualifies, tooDear, trial, turnOf}
 use Rattle.rules.specs.TableText.{Records}
 use Rattle.rules.specs.Valid.{Valid}
 
@@ -51,7 +51,8 @@ pub five-would-fit : let again = trial (turnOf outlived (job 1 2 7 2 5 0)) (cour
 unfolding right
 five-would-fit = (refl, refl)
 
--- NOT TRUE: the energy never exceeds that at top speed. The lowest speed that qualifies is the dearer one here: 60 units for 50.
+-- NOT TRUE: no speed below the printed one would do. At 500 MHz job 1 would end in time and within budget, for 60 units; it is
+-- run at 1000 MHz for 50. (Version four printed the lowest speed that would do.)
 abbrev dearer : Records
 dearer = table 0 300 (speed 500 12 ∷ speed 1000 10 ∷ []) (job 1 5 90 50 70 0 ∷ []) []
 
@@ -59,9 +60,9 @@ pub dearer-valid : Valid dearer
 unfolding right
 dearer-valid = read-valid dearer refl
 
-pub energy-above-top : (planOf dearer .energy ≡ 60) × (energyAt (topOf dearer) (planOf dearer .jobs) ≡ 50)
+pub lower-would-do : (qualifies dearer (planOf dearer .jobs) (speed 500 12) ≡ true) × (planOf dearer .speed .mhz ≡ 1000)
 unfolding right
-energy-above-top = (refl, refl)
+lower-would-do = (refl, refl)
 
 -- NOT TRUE: a job of worth 0 matters only to those waiting for it. Nobody waits for job 2, and it is planned, since its chain
 -- has worth; its charge is spent.

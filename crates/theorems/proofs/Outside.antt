@@ -11,7 +11,7 @@ use Rattle.laws.proofs.Elements.{each-too}
 use Rattle.steps.proofs.Entries.{is-of, no-entry}
 use Rattle.steps.proofs.Jobs.{same-number}
 use Rattle.laws.proofs.Lookups.{each-always, find-keep, found-each, found-passes, keep-map, map-agree, total-agree}
-use Rattle.steps.proofs.Speeds.{same-speed}
+use Rattle.steps.proofs.Cheapest.{same-speed}
 use Rattle.steps.proofs.Turns.{keep-turns, turns-run}
 use Rattle.theorems.specs.Demand3.{outerFated, outerHold, outerJob}
 use Rattle.rules.specs.Lists.{Each, all, find, keep, sorted}

@@ -1,5 +1,5 @@
--- The ten theorems for testers, of every valid table's plan, in one place. Each is proved where its reason is: Speeds (1
--- and 2), Planned (3, 4), Fates (4), Rings (5), Overtaken (6, 7, 8), NotEmpty (9), Again (10). Assumes nothing.
+-- The eleven theorems for testers, of every valid table's plan, in one place. Each is proved where its reason is: Speeds (1, 2
+-- and 11), Planned (3, 4), Fates (4), Rings (5), Overtaken (6, 7, 8), NotEmpty (9), Again (10), SpeedRules (11). Assumes nothing.
 use mathlib.Core.Bool.{Bool, true}
 use mathlib.Core.List.{List, [], _∷_, cons≢nil, map}
 use mathlib.Core.Logic.{_⊎_}
@@ -19,13 +19,16 @@ use Rattle.steps.proofs.Overtaken.{TakesIn, lacking, only-five-overtaken, plan-
 use Rattle.laws.specs.Pairs.{Distinct}
 use Rattle.steps.proofs.Planned.{HoldersBefore, each-fated, holders-before, one-exactly-for-planned, plan-counts-ones, planned-once, sound-holders-before}
 use Rattle.steps.proofs.Rings.{OnRing, Reaches, chain-at-most-33, last-waits-for-nobody, no-ring-left, one-leaves-each-ring, taken-only-from-rings}
-use Rattle.steps.proofs.Speeds.{SpeedChosen, energy-in-budget, finish-in-time, plan-speed, planned-end-in-time, top-cost-in-budget}
+use Rattle.steps.proofs.Speeds.{SpeedChosen, energy-at-most-top, energy-in-budget, finish-in-time, no-lower-as-little, none-has-less, plan-speed, planned-end-in-time, top-cost-in-budget}
+use Rattle.theorems.proofs.SpeedRules.{SinceVersionFour, by-the-rule, rule-leaves-plan-and-fates, since-version-four}
+use Rattle.theorems.specs.SpeedRules.{SpeedRule, planBy}
 use Rattle.rules.specs.Listing.{finish}
 use Rattle.rules.specs.Lists.{Each, keep, lastOr}
-use Rattle.rules.specs.Plan.{Entry, Fated, chainOf, courseOf, cyclesOf, endsInTime, energyAt, fateBudget, fatePlanned, fateTime, fatesOf, inPlan, jobsOf, leavesItsRing, left, numbersOf, planFrom, planOf, runsOf, noTurnYet, timely, topOf, turn, turns, waitsLeft, waitsTimely, runOrder}
+use Rattle.rules.specs.Plan.{Entry, Fated, chainOf, courseOf, cyclesOf, endsInTime, energyAt, fateBudget, fatePlanned, fateTime, fatesOf, inPlan, inTime, jobsOf, leavesItsRing, left, numbersOf, planFrom, planOf, runsOf, noTurnYet, speedFor, timely, topOf, turn, turns, waitsLeft, waitsTimely, runOrder}
 use Rattle.rules.specs.TableText.{Records, noJob}
 use Rattle.rules.specs.Valid.{Valid}
 use Rattle.rules.specs.declared.Job.{Job}
+use Rattle.rules.specs.declared.Speed.{Speed}
 use Rattle.steps.proofs.RunOrder.{run-order}
 
 -- the job is in the final plan
@@ -33,8 +36,8 @@ abbrev pub isPlanned : Records → Job → Bool
 isPlanned t j = inPlan j (courseOf t .plan)
 
 pub record Promises (t : Records) : Type 0 where
-  -- 1. The energy is within budget, and so are all cycles at top cost. Step 9 always finds a speed: one that qualifies, and
-  -- the least that does.
+  -- 1. The energy is within budget, and so are all cycles at top cost. Step 9 always finds a speed: one that qualifies, the
+  -- cheapest that does, and among equals the lowest.
   pub energy-within-budget : planOf t .energy ≤ t .budget
   pub top-cost-within-budget : energyAt (topOf t) (planOf t .jobs) ≤ t .budget
   pub speed-found : SpeedChosen t (planOf t .jobs) (planOf t .speed)
@@ -81,6 +84,17 @@ pub record Promises (t : Records) : Type 0 where
   pub again-valid : Valid (again t)
   pub same-again : Alone (planned t) t
   pub planned-all-again : Each (λ (i : Fated). i .fate ≡ fatePlanned) (planOf (again t) .fates)
+  -- 11. Of all speeds at which every planned job ends in time, none has less energy than the plan, and no lower one as little:
+  -- also of those over the budget, which cost more than what is within it. The energy never exceeds that at top speed. Plan and
+  -- fates do not depend on the rule of step 9; against version four's, the lowest speed that qualifies, nothing ends later.
+  pub least-energy : Each (λ (g : Speed). inTime (t .clock) (g .mhz) (planOf t .jobs) ≡ true
+      → planOf t .energy ≤ energyAt g (planOf t .jobs)) (t .speeds)
+  pub lowest-of-equals : Each (λ (g : Speed). inTime (t .clock) (g .mhz) (planOf t .jobs) ≡ true
+      → g .mhz < planOf t .speed .mhz → planOf t .energy < energyAt g (planOf t .jobs)) (t .speeds)
+  pub at-most-top-energy : planOf t .energy ≤ energyAt (topOf t) (planOf t .jobs)
+  pub by-step-9 : planBy speedFor t ≡ planOf t
+  pub any-speed-rule : (rule : SpeedRule) → (planBy rule t .jobs ≡ planOf t .jobs) × (planBy rule t .fates ≡ planOf t .fates)
+  pub against-version-four : SinceVersionFour t
 
 module _ (t : Records) (v : Valid t) where
   six-in-plan : Each (λ (i : Fated). i .fate ≡ fateBudget
@@ -124,4 +138,10 @@ module _ (t : Records) (v : Valid t) where
         again-valid = outside-valid (planned t) t v;
         same-again = planned-again t v;
         planned-all-again = all-planned-again t v;
+        least-energy = none-has-less t v;
+        lowest-of-equals = no-lower-as-little t v;
+        at-most-top-energy = energy-at-most-top t v;
+        by-step-9 = by-the-rule t;
+        any-speed-rule = λ rule. rule-leaves-plan-and-fates rule t;
+        against-version-four = since-version-four t v;
       }

@@ -1,16 +1,18 @@
--- The theorems for testers speak of something: a valid table with a ring of three and a fourth that waits for it, and case
--- S with one unit less of budget, in which job 1 gets a 6 that stays true. antt computes both. Assumes nothing.
+-- The theorems for testers speak of something: a valid table with a ring of three and a fourth that waits for it; case S with
+-- one unit less of budget, in which job 1 gets a 6 that stays true; and the table with model 3's speeds under version four's
+-- rule of step 9 and under A1's. antt computes all. Assumes nothing.
 use mathlib.Core.List.{[], _∷_}
 use mathlib.Core.Path.{_≡_, refl}
 use Prim.Native.Nat.{_+_, _*_, _<_}
 use Rattle.laws.proofs.Lookups.{each-first}
 use Rattle.steps.proofs.Overtaken.{lacking, six-stays-true}
 use Rattle.steps.proofs.Rings.{OnRing}
-use Rattle.grammar.proofs.Tables.{hold, job, read-valid, table, twoSpeeds}
+use Rattle.grammar.proofs.Tables.{hold, job, read-valid, speed, table, twoSpeeds}
 use Rattle.rules.specs.Case.{right}
 use Rattle.rules.specs.Plan.{courseOf, cyclesOf, fateBudget, fateIn, fatesOf, planOf, topOf, waitsTimely, runOrder}
 use Rattle.rules.specs.TableText.{Records}
 use Rattle.rules.specs.Valid.{Valid}
+use Rattle.theorems.specs.SpeedRules.{lowestFor, planBy}
 
 abbrev ringed : Records
 ringed =
@@ -52,3 +54,23 @@ short-six = refl
 pub short-stays : 2499999999
     < (cyclesOf (runOrder short (courseOf short .plan)) + cyclesOf (lacking short (job 1 1000 50 3000 3000 0))) * topOf short .cost
 short-stays = each-first (six-stays-true short short-valid) short-six
+
+abbrev modelThree : Records
+modelThree =
+    table 0 1200000000
+    (speed 360 1453689 ∷ speed 550 1060341 ∷ speed 640 986050 ∷ speed 730 951382 ∷ speed 820 945957 ∷ speed 910 963501
+    ∷ speed 1000 1000000 ∷ [])
+    (job 1 1000 1 3000 3000 0 ∷ [])
+    []
+
+pub model-three-valid : Valid modelThree
+unfolding right
+model-three-valid = read-valid modelThree refl
+
+pub by-version-four : (planBy lowestFor modelThree .speed .mhz ≡ 550) × (planBy lowestFor modelThree .energy ≡ 1060341000)
+unfolding right planBy lowestFor
+by-version-four = (refl, refl)
+
+pub by-a1 : (planOf modelThree .speed .mhz ≡ 820) × (planOf modelThree .energy ≡ 945957000)
+unfolding right
+by-a1 = (refl, refl)

@@ -1,6 +1,6 @@
 //! Cases to try: tables, texts and buffers, each made from a seed and an index alone, so that a failing one can be made
-//! again. The tables lean to what goes wrong first: waiting, rings, equal ratios and keys, and ends that are exactly in
-//! time or within budget, or one short of it.
+//! again. The tables lean to what goes wrong first: waiting, rings, equal ratios, keys and costs, costs that are least
+//! between the lowest speed and the top, and ends that are exactly in time or within budget, or one short of it.
 
 use crate::reference::{
     plan_table, Hold, Job, Speed, Table, COSTS, HOLDS, JOBS, LAST_NUMBER, LAST_RESOURCE, LAST_TIME, MOST_BUDGET,
@@ -67,6 +67,9 @@ pub fn table(seed: u64, index: u64) -> Table {
     make_times(random, &mut table);
     make_waiting(random, &mut table);
     table.budget = budget(random, &table);
+    if random.chance(30) {
+        make_choice(random, &mut table);
+    }
     for _ in 0..random.one_of(&[0, 0, 1, 2, 4]) {
         make_tie(random, &mut table);
     }
@@ -83,9 +86,9 @@ fn clock(random: &mut Random) -> u64 {
     }
 }
 
-/// 1 to 16 speeds with costs that rise, fall or do neither.
+/// 1 to 16 speeds with their costs.
 fn make_speeds(random: &mut Random, table: &mut Table) {
-    let count = random.one_of(&[1, 1, 2, 2, 3, 4, 7, 16, 16]).min(random.within(1, 16));
+    let count = random.one_of(&[1, 1, 2, 3, 4, 7, 7, 16, 16]).min(random.within(1, 16));
     let round = random.one_of(&[1, 10, 125, 250]);
     let mut speeds: Vec<u64> = match random.below(6) {
         0 => (1..=count).collect(),
@@ -96,21 +99,46 @@ fn make_speeds(random: &mut Random, table: &mut Table) {
     };
     speeds.sort();
     speeds.dedup();
+    let costs = costs(random, &speeds);
+    table.speed_count = speeds.len();
+    for (place, (mhz, cost)) in table.speeds.iter_mut().zip(speeds.into_iter().zip(costs)) {
+        *place = Speed { mhz, cost };
+    }
+}
+
+/// The costs of a supplied model as they stand, where the speeds are its own; or costs of two sizes, of few or of many,
+/// in some shape.
+fn costs(random: &mut Random, speeds: &[u64]) -> Vec<u64> {
+    if *speeds == SUPPLIED_SPEEDS && random.chance(50) {
+        return random.one_of(&COSTS).to_vec();
+    }
     let mut costs: Vec<u64> = match random.below(5) {
         0 => speeds.iter().map(|_| random.one_of(&[1, MOST_COST])).collect(),
         1 if speeds.len() == 7 => random.one_of(&COSTS).to_vec(),
         2 => speeds.iter().map(|_| random.within(1, 3)).collect(),
         _ => speeds.iter().map(|_| random.within(1, MOST_COST)).collect(),
     };
-    match random.below(3) {
-        0 => costs.sort(),
-        1 => costs.sort_by(|one, other| other.cmp(one)),
-        _ => (),
+    shape_costs(random, &mut costs);
+    costs
+}
+
+/// Makes costs rise, fall, or fall and then rise, or makes them all equal, or leaves them; now and then more of them
+/// become the least first.
+fn shape_costs(random: &mut Random, costs: &mut [u64]) {
+    let count = costs.len() as u64;
+    if random.chance(10) {
+        let least = costs.iter().min().copied().unwrap_or(1);
+        (0..random.within(1, 3)).for_each(|_| costs[random.below(count) as usize] = least);
     }
-    table.speed_count = speeds.len();
-    for (place, (mhz, cost)) in table.speeds.iter_mut().zip(speeds.into_iter().zip(costs)) {
-        *place = Speed { mhz, cost };
-    }
+    let rising_from = match random.below(15) {
+        0..=2 => 0,
+        3..=6 => costs.len(),
+        7..=9 => random.within(0, count) as usize,
+        10 => return costs.fill(costs[0]),
+        _ => return,
+    };
+    costs[..rising_from].sort_by(|one, other| other.cmp(one));
+    costs[rising_from..].sort();
 }
 
 /// 0 to 64 jobs with numbers, cycles and worths; times and requests are still 0.
@@ -165,12 +193,13 @@ fn cycles_and_worth(random: &mut Random, style: u64) -> (u64, u64) {
     }
 }
 
-/// Critical and termination times for a load that is light, just fits, or is far too much; also few different times,
-/// times before now and the ends of the range.
+/// Critical and termination times for a load that is light, just fits, or is far too much at the top speed, or now and
+/// then at another; also few different times, times before now and the ends of the range.
 fn make_times(random: &mut Random, table: &mut Table) {
-    let top = table.speeds[table.speed_count - 1].mhz;
+    let speeds = &table.speeds[..table.speed_count];
+    let speed = if random.chance(25) { random.one_of(speeds).mhz } else { speeds[speeds.len() - 1].mhz };
     let cycles: u64 = table.jobs[..table.job_count].iter().map(|job| job.cycles).sum();
-    let all = cycles * 1000 / top + 1;
+    let all = cycles * 1000 / speed + 1;
     let percent = random.one_of(&[10, 40, 80, 100, 100, 150, 300, 1000]);
     let horizon = (all * percent / 100).clamp(1, LAST_TIME);
     let pool: Vec<u64> = (0..random.within(1, 4)).map(|_| table.clock + random.within(1, horizon)).collect();
@@ -178,7 +207,7 @@ fn make_times(random: &mut Random, table: &mut Table) {
     let criticals = random.below(6);
     let clock = table.clock;
     for job in &mut table.jobs[..table.job_count] {
-        let own = clock + job.cycles * 1000 / top;
+        let own = clock + job.cycles * 1000 / speed;
         let termination = match style {
             0 => random.one_of(&pool),
             1 => LAST_TIME,
@@ -340,27 +369,54 @@ fn budget(random: &mut Random, table: &Table) -> u64 {
     }
 }
 
+/// Leaves the plan of the table so far a choice between speeds: each of its jobs that has less time than it needs at
+/// one of them gets that much.
+fn make_choice(random: &mut Random, table: &mut Table) {
+    let mut order = [0; JOBS];
+    let plan = plan_table(table, &mut order, &mut [0; JOBS]);
+    let speed = random.one_of(&table.speeds[..table.speed_count]);
+    let mut cycles = 0;
+    for number in &order[..plan.count] {
+        if let Some(job) = table.jobs.iter_mut().find(|job| job.number == *number) {
+            cycles += job.cycles;
+            let end = table.clock + (cycles * 1000).div_ceil(speed.mhz);
+            job.termination = job.termination.max(end).min(LAST_TIME);
+        }
+    }
+}
+
 /// Moves one bound to where the plan of the table so far just meets it at some speed, or misses it by one: the
-/// termination of a planned job, or the budget.
+/// termination of a planned job, often at a cheapest speed, or the budget, often at a speed that costs more than the
+/// top speed, so that the plan stays.
 fn make_tie(random: &mut Random, table: &mut Table) {
     let mut order = [0; JOBS];
     let plan = plan_table(table, &mut order, &mut [0; JOBS]);
     if plan.count == 0 {
         return;
     }
-    let upto = random.below(plan.count as u64) as usize;
-    let speed = random.one_of(&table.speeds[..table.speed_count]);
+    let upto = if random.chance(50) { plan.count - 1 } else { random.below(plan.count as u64) as usize };
     let place = |number: u64| table.jobs[..table.job_count].iter().position(|job| job.number == number);
     let places: Vec<usize> = order[..=upto].iter().filter_map(|number| place(*number)).collect();
     let cycles: u64 = places.iter().map(|place| table.jobs[*place].cycles).sum();
+    let speeds = &table.speeds[..table.speed_count];
+    let least = speeds.iter().map(|speed| speed.cost).min();
     let short = random.below(2);
     if random.chance(60) {
+        let speed = often(random, speeds, |speed| Some(speed.cost) == least);
         let job = &mut table.jobs[places[upto]];
         job.termination = (table.clock + (cycles * 1000).div_ceil(speed.mhz) - short).min(LAST_TIME);
         job.critical = job.critical.min(job.termination);
     } else {
+        let speed = often(random, speeds, |speed| speed.cost > speeds[speeds.len() - 1].cost);
         table.budget = cycles * speed.cost - short;
     }
+}
+
+/// Half the time one of the wanted speeds, if there is any; else any speed.
+fn often(random: &mut Random, speeds: &[Speed], wanted: impl Fn(&Speed) -> bool) -> Speed {
+    let wanted: Vec<Speed> = speeds.iter().filter(|speed| wanted(speed)).copied().collect();
+    let any = wanted.is_empty() || random.chance(50);
+    random.one_of(if any { speeds } else { &wanted })
 }
 
 // ---- Texts -----------------------------------------------------------------------------------------------------------

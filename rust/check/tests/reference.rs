@@ -5,8 +5,8 @@ use cuddlelamb_check::change::changes;
 use cuddlelamb_check::generate::{self, Random};
 use cuddlelamb_check::naive;
 use cuddlelamb_check::reference::{
-    allocate, costs, list, plan, plan_table, read, write, Hold, Plan, Refused, Table, COSTS, HOLDS, JOBS, LAST_TIME,
-    LONGEST_LISTING, LONGEST_TEXT, MOST_BUDGET, MOST_COST, MOST_WORTH, SPEEDS, SUPPLIED_SPEEDS,
+    allocate, costs, list, plan, plan_table, read, write, Hold, Plan, Refused, Speed, Table, COSTS, HOLDS, JOBS,
+    LAST_TIME, LONGEST_LISTING, LONGEST_TEXT, MOST_BUDGET, MOST_COST, MOST_WORTH, SPEEDS, SUPPLIED_SPEEDS,
 };
 
 /// Every generated case is made from this and an index.
@@ -33,6 +33,13 @@ fn listing(text: &[u8]) -> Vec<u8> {
     let mut out = [0; LONGEST_LISTING];
     let length = list(text, &mut out).expect("room for the longest listing");
     out[..length].to_vec()
+}
+
+/// The F lines of a supplied model.
+fn model(number: u64) -> String {
+    let costs = costs(number).expect("a supplied model");
+    let lines: Vec<String> = SUPPLIED_SPEEDS.iter().zip(costs).map(|(mhz, cost)| format!("F {mhz} {cost}")).collect();
+    lines.join(" / ")
 }
 
 fn refused(number: u64, line: u64) -> Refused {
@@ -86,12 +93,11 @@ fn the_budget_is_reckoned_at_top_speed() {
 }
 
 #[test]
-fn the_lowest_speed_need_not_be_the_cheapest() {
-    let speeds: Vec<String> =
-        SUPPLIED_SPEEDS.iter().zip(costs(3).unwrap()).map(|(mhz, cost)| format!("F {mhz} {cost}")).collect();
-    let (plan, order, _) = answer(&text(&format!("T 0 1200000000 / {} / J 1 1000 1 3000 3000 0", speeds.join(" / "))));
+fn the_cheapest_speed_need_not_be_the_lowest() {
+    let lines = format!("T 0 1200000000 / {} / J 1 1000 1 3000 3000 0", model(3));
+    let (plan, order, _) = answer(&text(&lines));
     assert_eq!(order, [1]);
-    assert_eq!(plan, Plan { count: 1, speed: 550, energy: 1_060_341_000 });
+    assert_eq!(plan, Plan { count: 1, speed: 820, energy: 945_957_000 });
 }
 
 #[test]
@@ -130,6 +136,100 @@ fn decided_plans() {
     let lines = "T 0 1000000000000000 / F 1000 1 / J 1 10 1 900 90000 1 / J 2 10 50 500 90000 2 / \
         J 3 10 40 600 90000 0 / J 4 10 35 500 90000 0 / H 1 2 / H 2 3";
     assert_eq!(answer(&text(lines)).1, [3, 4, 2, 1]);
+}
+
+// ---- The choice of a speed -------------------------------------------------------------------------------------------
+
+/// The speed and the energy for one job of 1000 cycles, which the naive one must give too. At 500, 1000 and 2000 MHz
+/// the job takes 2000, 1000 and 500 ms.
+fn chosen(budget: u64, speeds: &str, termination: u64) -> (u64, u64) {
+    let whole = text(&format!("T 0 {budget} / {speeds} / J 1 1000 1 {termination} {termination} 0"));
+    let (plan, ..) = answer(&whole);
+    assert_eq!(naive::plan(&read(&whole).expect("a good text")).plan, plan);
+    (plan.speed, plan.energy)
+}
+
+#[test]
+fn equal_costs_take_the_lowest() {
+    assert_eq!(chosen(MOST_BUDGET, "F 500 7 / F 1000 7 / F 2000 7", 2000), (500, 7_000));
+    assert_eq!(chosen(MOST_BUDGET, "F 500 7 / F 1000 7 / F 2000 7", 1999), (1000, 7_000));
+    assert_eq!(chosen(MOST_BUDGET, "F 500 9 / F 1000 7 / F 2000 7", 2000), (1000, 7_000));
+    assert_eq!(chosen(MOST_BUDGET, "F 500 7 / F 1000 9 / F 2000 7", 2000), (500, 7_000));
+    assert_eq!(chosen(MOST_BUDGET, "F 500 7 / F 1000 9 / F 2000 7", 1999), (2000, 7_000));
+}
+
+#[test]
+fn a_cheaper_speed_is_not_taken_where_a_job_ends_late() {
+    assert_eq!(chosen(MOST_BUDGET, "F 500 5 / F 1000 8 / F 2000 9", 2000), (500, 5_000));
+    assert_eq!(chosen(MOST_BUDGET, "F 500 5 / F 1000 8 / F 2000 9", 1999), (1000, 8_000));
+    assert_eq!(chosen(MOST_BUDGET, "F 500 5 / F 1000 9 / F 2000 8", 1999), (2000, 8_000));
+    // The second of two jobs alone may be late: at 500 MHz they end at 2000 and 4000 ms.
+    for (termination, expected) in [(4000, (500, 10_000)), (3999, (1000, 16_000))] {
+        let front = "T 0 1000000000000000 / F 500 5 / F 1000 8 / F 2000 9 / J 1 1000 1 2000 2000 0";
+        let (plan, order, _) = answer(&text(&format!("{front} / J 2 1000 1 {termination} {termination} 0")));
+        assert_eq!((order, plan.speed, plan.energy), (vec![1, 2], expected.0, expected.1));
+    }
+}
+
+/// At the seven speeds the job takes, cut to tenths, 2777.7, 1818.1, 1562.5, 1369.8, 1219.5, 1098.9 and 1000 ms.
+#[test]
+fn the_cheapest_speeds_of_the_supplied_models() {
+    let cases = [
+        (1, 2778, (360, 129_600_000)),
+        (1, 2777, (550, 302_500_000)),
+        (2, 2778, (550, 681_421_000)),
+        (2, 1819, (550, 681_421_000)),
+        (2, 1818, (640, 697_825_000)),
+        (3, 2778, (820, 945_957_000)),
+        (3, 1220, (820, 945_957_000)),
+        (3, 1219, (910, 963_501_000)),
+        (3, 1099, (910, 963_501_000)),
+        (3, 1098, (1000, 1_000_000_000)),
+    ];
+    for (number, termination, expected) in cases {
+        let given = chosen(MOST_BUDGET, &model(number), termination);
+        assert_eq!(given, expected, "model {number}, termination {termination}");
+    }
+}
+
+#[test]
+fn falling_costs_take_the_top_speed() {
+    assert_eq!(chosen(MOST_BUDGET, "F 500 9 / F 1000 8 / F 2000 7", 2000), (2000, 7_000));
+    assert_eq!(chosen(7_000, "F 500 9 / F 1000 8 / F 2000 7", 2000), (2000, 7_000));
+}
+
+#[test]
+fn a_dearer_speed_on_the_way_does_not_end_the_search() {
+    assert_eq!(chosen(MOST_BUDGET, "F 500 7 / F 1000 9 / F 2000 6", 2000), (2000, 6_000));
+}
+
+#[test]
+fn one_speed_is_taken_at_any_cost() {
+    assert_eq!(chosen(MOST_BUDGET, "F 500 4000000", 2000), (500, 4_000_000_000));
+    assert_eq!(chosen(3_000, "F 500 3", 2000), (500, 3_000));
+}
+
+/// Nothing costs nothing at any speed: with no job, with one that is late alone, and with one that is over the budget.
+#[test]
+fn an_empty_plan_takes_the_first_speed() {
+    let speeds = "F 500 9 / F 1000 8 / F 2000 7";
+    let (plan, ..) = answer(&text(&format!("T 0 1000000000000000 / {speeds}")));
+    assert_eq!(plan, Plan { count: 0, speed: 500, energy: 0 });
+    assert_eq!(chosen(MOST_BUDGET, speeds, 499), (500, 0));
+    assert_eq!(chosen(6_999, speeds, 2000), (500, 0));
+}
+
+/// A plan is within budget at the top speed, and so at a cheaper one, whatever it takes at the lowest.
+#[test]
+fn the_cheapest_in_time_is_within_budget_where_the_lowest_is_not() {
+    let speeds = "F 500 9 / F 1000 6 / F 2000 7";
+    for budget in [7_000, 8_999, 9_000, MOST_BUDGET] {
+        assert_eq!(chosen(budget, speeds, 2000), (1000, 6_000), "budget {budget}");
+    }
+    assert_eq!(chosen(6_999, speeds, 2000), (500, 0), "it is planned at the top speed's cost or not at all");
+    for budget in [7_000, 8_999, 9_000] {
+        assert_eq!(chosen(budget, "F 500 5 / F 1000 9 / F 2000 7", 1999), (2000, 7_000), "budget {budget}");
+    }
 }
 
 // ---- Refusals --------------------------------------------------------------------------------------------------------
@@ -612,6 +712,119 @@ fn hard_cases_are_among_the_generated() {
     println!("of 20000 tables: {long_chains} with a planned chain of 33, {several_rings} with several rings,");
     println!("{exact_ends} with an end exactly at a termination, {exact_budgets} with exactly the budget");
     assert!(long_chains > 20 && several_rings > 500 && exact_ends > 500 && exact_budgets > 100);
+}
+
+/// The speeds at which every entry of a plan would end by a termination so many ms later, and all cycles of the plan.
+fn in_time(table: &Table, order: &[u64], later: i64) -> (Vec<Speed>, u64) {
+    let mut cycles = 0;
+    let mut speeds = table.speeds[..table.speed_count].to_vec();
+    for number in order {
+        let job = table.jobs.iter().find(|job| job.number == *number).expect("a planned job");
+        let ms = job.termination as i64 - table.clock as i64 + later;
+        cycles += job.cycles;
+        speeds.retain(|speed| cycles as i64 * 1000 <= ms * speed.mhz as i64);
+    }
+    (speeds, cycles)
+}
+
+/// How step 9 can be misread; the last walks up only as long as the next speed is cheaper.
+const MISREADINGS: [&str; 8] = [
+    "the lowest that qualifies",
+    "the highest of equals in energy",
+    "the cheapest of all, in time or not",
+    "the cheapest of all for an empty plan",
+    "the top speed always",
+    "the lowest in time, whatever its energy",
+    "the lowest in time, which is over the budget",
+    "the first that qualifies and that the next does not undercut",
+];
+
+/// The speed that each misreading takes, worked out from the plan; none where it does not speak of this plan.
+fn misread(table: &Table, order: &[u64]) -> [Option<Speed>; MISREADINGS.len()] {
+    let speeds = &table.speeds[..table.speed_count];
+    let cheapest = speeds.iter().min_by_key(|speed| speed.cost).copied();
+    if order.is_empty() {
+        return [None, None, None, cheapest, None, None, None, None];
+    }
+    let (in_time, cycles) = in_time(table, order, 0);
+    let energy = |speed: &Speed| cycles * speed.cost;
+    let qualifying: Vec<Speed> = in_time.iter().filter(|speed| energy(speed) <= table.budget).copied().collect();
+    let undercuts = |pair: &[Speed]| energy(&pair[1]) < energy(&pair[0]);
+    [
+        qualifying.first().copied(),
+        qualifying.iter().rev().min_by_key(|speed| energy(speed)).copied(),
+        cheapest,
+        None,
+        speeds.last().copied(),
+        in_time.first().copied(),
+        in_time.first().filter(|speed| energy(speed) > table.budget).copied(),
+        qualifying.get(qualifying.windows(2).take_while(|pair| undercuts(pair)).count()).copied(),
+    ]
+}
+
+/// The generator comes to tables for which each misreading of step 9 takes another speed than the right one.
+#[test]
+fn misreadings_of_the_speed_are_found_out() {
+    println!("seed {SEED}");
+    let (mut choices, mut found_out) = (0, [0; MISREADINGS.len()]);
+    for table in (0..20_000).map(|index| generate::table(SEED, index)).filter(|table| table.speed_count > 1) {
+        let naive::Answer { plan, order, .. } = naive::plan(&table);
+        choices += 1;
+        for (count, taken) in found_out.iter_mut().zip(misread(&table, &order)) {
+            *count += u64::from(taken.is_some_and(|speed| speed.mhz != plan.speed));
+        }
+    }
+    println!("of {choices} tables with several speeds, another one is taken by:");
+    MISREADINGS.iter().zip(found_out).for_each(|(misreading, count)| println!("{misreading}: {count}"));
+    assert!(found_out.iter().all(|count| count * 100 > choices), "{found_out:?}");
+}
+
+/// What makes the choice of a speed hard, and whether it does so in a table with this plan.
+fn hard_choices(table: &Table, order: &[u64]) -> [(&'static str, bool); 14] {
+    let speeds = &table.speeds[..table.speed_count];
+    let (mhz, costs): (Vec<u64>, Vec<u64>) = speeds.iter().map(|speed| (speed.mhz, speed.cost)).unzip();
+    let (last, top_cost) = (costs.len() - 1, costs[costs.len() - 1]);
+    let bottom = (0..=last).min_by_key(|place| costs[*place]).expect("a table has a speed");
+    let leasts = costs.iter().filter(|cost| **cost == costs[bottom]).count();
+    let rise = costs.is_sorted_by(|one, other| one < other);
+    let fall = costs.is_sorted_by(|one, other| one > other);
+    let valley = costs[..=bottom].is_sorted_by(|one, other| one >= other) && costs[bottom..].is_sorted();
+    let supplied = |model: usize| mhz == SUPPLIED_SPEEDS && costs == COSTS[model - 1];
+    let (good, cycles) = in_time(table, order, 0);
+    let choice = !order.is_empty() && good.len() > 1;
+    let cheapest_ends = |later| bottom < last && in_time(table, order, later).0.contains(&speeds[bottom]);
+    let dearer = |energy| choice && good.iter().any(|speed| speed.cost > top_cost && cycles * speed.cost == energy);
+    [
+        ("one speed alone", last == 0 && !order.is_empty()),
+        ("costs rise", choice && rise),
+        ("costs fall", choice && fall),
+        ("costs fall and then rise", choice && valley && 0 < bottom && bottom < last),
+        ("model 2", choice && supplied(2)),
+        ("model 3", choice && supplied(3)),
+        ("all costs are equal", choice && leasts == speeds.len()),
+        ("some costs are the least", choice && 1 < leasts && leasts < speeds.len()),
+        ("the cheapest speed is too slow", choice && bottom < last && !cheapest_ends(0)),
+        ("it is so by a millisecond or less", cheapest_ends(1) && !cheapest_ends(0)),
+        ("it is in time by less than that", cheapest_ends(0) && !cheapest_ends(-1)),
+        ("the budget is just enough for a dearer speed than the top", dearer(table.budget)),
+        ("the budget is one short of that", dearer(table.budget + 1)),
+        ("an empty plan under falling costs", order.is_empty() && last > 0 && fall),
+    ]
+}
+
+/// The generator comes to the speeds, times and budgets between which a choice is hard.
+#[test]
+fn hard_choices_are_among_the_generated() {
+    println!("seed {SEED}");
+    let mut counts = [0; 14];
+    for table in (0..20_000).map(|index| generate::table(SEED, index)) {
+        let hard = hard_choices(&table, &planned(&table).order);
+        counts.iter_mut().zip(hard).for_each(|(count, (_, is_so))| *count += u64::from(is_so));
+    }
+    let names = hard_choices(&small(), &[]).map(|(name, _)| name);
+    println!("of 20000 tables:");
+    names.iter().zip(counts).for_each(|(name, count)| println!("{name}: {count}"));
+    assert!(counts.iter().all(|count| *count > 100), "{counts:?}");
 }
 
 /// Plans from texts, good and damaged, into buffers of all lengths; the refusal of a buffer comes first, and a refusal

@@ -104,8 +104,9 @@ impl Default for Table {
 pub struct Plan {
     /// How many jobs are planned.
     pub count: usize,
-    /// MHz: the lowest speed at which every planned job ends by its termination and the energy is within budget.
+    /// MHz: of the speeds at which every planned job ends by its termination and the energy is within budget, the one
+    /// with the least energy, among equals the lowest.
     pub speed: u64,
-    /// Units.
+    /// Units: what all planned cycles cost at this speed.
     pub energy: u64,
 }

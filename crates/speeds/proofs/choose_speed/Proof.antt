@@ -1,143 +1,116 @@
--- `speeds::choose_speed` meets its contract: no speed passed qualifies, so that the first which does is among those left.
--- In the ranges the energy does not wrap. The measure is how many speeds are left. Assumes nothing.
-use mathlib.Core.Path.{_≡_, refl, sym, _∙_}
-use Prim.Native.Nat.{_*_, _-_, _≤_}
+-- `speeds::choose_speed` meets its contract: where no speed is in time none qualifies; else the cheapest of those in time is
+-- the rules', if it is within budget, and if it is over, none qualifies. In the ranges the energy does not wrap. Assumes
+-- nothing.
+use Prim.Native.Nat.{_*_, _≤_, _<_}
 use native.Mathlib.Nat.{mul-le-mul}
 use native.Mathlib.Omega.{arith}
 use borrow.Author.Needs.{needs}
-use lib.ListN.{getD, take}
-use Rattle.columns.specs.Columns.{RunsOf, jobsAt}
-use Rattle.rules.specs.Plan.{energyAt}
-use Rattle.rules.specs.TableText.{Records, mostCycles, mostJobs, noSpeed}
-use Rattle.rules.specs.declared.Speed.{Speed}
-use Rattle.speeds.proofs.Searched.{SpeedsLeft, energy-reckoned, first-qualifies, no-speed-no-energy, none-qualifies, passed-over}
+use lib.ListN.{getD}
+use Rattle.columns.specs.Columns.{jobsAt}
+use Rattle.rules.specs.TableText.{mostCycles, mostJobs, noSpeed}
+use Rattle.speeds.proofs.Searched.{all-late, energy-reckoned, in-budget, no-speed-no-energy, over-budget}
 use Rattle.speeds.proofs.choose_speed.Statement.{statement}
 use Rattle.speeds.proofs.choose_speed.Tie as tie
-use Rattle.speeds.specs.Promises.{SpeedsOf}
 
-abbrev Inv-loop : tie.InvT-loop
-Inv-loop speed-count places cycles termination terms speeds total i₀ i =
-    (i ≤ speed-count)
-    × ((t : Records) → SpeedsOf t speeds speed-count cycles termination terms
-    → SpeedsLeft t (jobsAt (t .jobs) places) (take speed-count speeds) i)
+first-in-time-requires : tie.Need-first-in-time-requires
+first-in-time-requires c κs = search needs
 
-abbrev μ-loop : tie.MeasureT-loop
-μ-loop speed-count places cycles termination terms speeds total i₀ i = speed-count - i
+returns : tie.Need-returns
+returns c =
+    let start = c .before .before .before in
+    let args = start .args in
+    record {
+      speed = λ t v of.
+          all-late t v (args .t1) (args .speed-count) (omega (arith, start .pre .in-range .few)) (of .speeds-of)
+          (jobsAt (t .jobs) (args .places .now))
+          (λ i h. c .before .first-in-time .ensures .late-before t v of i (omega (arith, c .if1 .taken)));
+      energy = λ t of. no-speed-no-energy (jobsAt (t .jobs) (args .places .now));
+    }
 
-total-cycles-requires : tie.Need-total-cycles-requires Inv-loop μ-loop
+total-cycles-requires : tie.Need-total-cycles-requires
 total-cycles-requires c κs = search needs
 
-loop-holds : tie.Need-loop-holds Inv-loop μ-loop
-loop-holds c = (omega arith, λ t of. refl)
-
 -- the sum of all cycles
-total-within : (c : tie.After-total-cycles Inv-loop μ-loop) → c .total-cycles .result ≤ mostCycles * mostJobs
-total-within c = omega (arith, c .total-cycles .ensures .at-most, c .before .before .pre .job-places .few)
+total-within : (c : tie.After-total-cycles) → c .total-cycles .result ≤ mostCycles * mostJobs
+total-within c = omega (arith, c .total-cycles .ensures .at-most, c .before .before .before .before .pre .job-places .few)
 
--- it is that of the jobs, so that a speed's energy is the rules'
-energy-at : (c : tie.After-total-cycles Inv-loop μ-loop) (f : Speed) (t : Records)
-    → RunsOf (t .jobs) (c .before .before .args .cycles .now) (c .before .before .args .termination .now)
-    → c .total-cycles .result * f .cost ≡ energyAt f (jobsAt (t .jobs) (c .before .before .args .places .now))
-energy-at c f t runs =
-    energy-reckoned (jobsAt (t .jobs) (c .before .before .args .places .now)) f _
-    (c .total-cycles .ensures .total (t .jobs) (runs .cycles-of))
+cheapest-from-requires : tie.Need-cheapest-from-requires
+cheapest-from-requires c κs = record { in-range = c .before .before .before .before .pre .in-range; total-small = total-within c }
 
-mul-speed : tie.Need-mul-speed Inv-loop μ-loop
-mul-speed c = search needs
+-- some speed is in time
+some-in-time : (c : tie.After-total-cycles)
+    → c .before .before .first-in-time .result < c .before .before .before .before .args .speed-count
+some-in-time c = omega (arith, c .before .before .first-in-time .ensures .at-most, c .before .if1 .left)
 
-array-copy-out-speed : tie.Need-array-copy-out-speed Inv-loop μ-loop
-array-copy-out-speed c = search needs
+-- the cheapest of them is one of the speeds
+there : (c : tie.After-cheapest-from)
+    → c .cheapest-from .result < c .before .before .before .before .before .args .speed-count
+there c = c .cheapest-from .ensures .inside (omega (arith, some-in-time (c .before)))
 
-mul-energy : tie.Need-mul-energy Inv-loop μ-loop
+mul-speed : tie.Need-mul-speed
+mul-speed c = omega (arith, there c, c .before .before .before .before .before .pre .in-range .few)
+
+array-copy-out-speed : tie.Need-array-copy-out-speed
+array-copy-out-speed c = omega (arith, there c, c .before .before .before .before .before .pre .in-range .few)
+
+mul-energy : tie.Need-mul-energy
 mul-energy c =
-    let at-loop = c .before .before .before in
-    let start = at-loop .before .before .before in
+    let chose = c .before .before in
+    let start = chose .before .before .before .before .before in
     omega (
       arith,
-      mul-le-mul (total-within (at-loop .before))
-          (start .pre .in-range .cost (at-loop .loop .i) (c .before .before .loop-test .taken)),
+      mul-le-mul (total-within (chose .before)) (start .pre .in-range .cost (chose .cheapest-from .result) (there chose)),
     )
 
-qualifies-requires : tie.Need-qualifies-requires Inv-loop μ-loop
-qualifies-requires c κs =
-    let at-loop = c .before .before .before in
-    let pre = at-loop .before .before .before .pre in
-    record {
-      job-places = pre .job-places;
-      runs-small = pre .runs-small;
-      clock-small = pre .terms-small .clock;
-      mhz-small = pre .in-range .mhz (at-loop .loop .i) (c .before .before .loop-test .taken);
-    }
-
-returns : tie.Need-returns Inv-loop μ-loop
-returns c =
-    let at-loop = c .before .before .before .before .before in
-    let summed = at-loop .before in
-    let start = summed .before .before in
-    let args = start .args in
-    let i = at-loop .loop .i in
-    let speed = getD (args .t1) i noSpeed in
-    record {
-      speed = λ t of.
-          first-qualifies t (args .t1) (args .speed-count) (jobsAt (t .jobs) (args .places .now)) i
-          (omega (arith, start .pre .in-range .few)) (c .before .before .before .before .loop-test .taken) (of .speeds-of)
-          (sym
-          (c .before .qualifies .ensures .qualifies-as t (of .terms-of) (of .runs-of)
-          (energy-at summed speed t (of .runs-of)))
-          ∙ c .if1 .taken) (at-loop .loop .inv .1 t of);
-      energy = λ t of. energy-at summed speed t (of .runs-of);
-    }
-
-add-i : tie.Need-add-i Inv-loop μ-loop
-add-i c = search needs
-
-loop-less : tie.Need-loop-less Inv-loop μ-loop
-loop-less c = search needs
-
-loop-again : tie.Need-loop-again Inv-loop μ-loop
-loop-again c =
-    let at-loop = c .before .before .before .before .before in
-    let summed = at-loop .before in
-    let start = summed .before .before in
-    let args = start .args in
-    let i = at-loop .loop .i in
-    let speed = getD (args .t1) i noSpeed in (
-      omega arith,
-      λ t of.
-          passed-over t (args .t1) (args .speed-count) (jobsAt (t .jobs) (args .places .now)) i
-          (omega (arith, start .pre .in-range .few)) (c .before .before .before .before .loop-test .taken)
-          (sym
-          (c .before .qualifies .ensures .qualifies-as t (of .terms-of) (of .runs-of)
-          (energy-at summed speed t (of .runs-of)))
-          ∙ c .if1 .left) (at-loop .loop .inv .1 t of),
-    )
-
-returns-2 : tie.Need-returns-2 Inv-loop μ-loop
+returns-2 : tie.Need-returns-2
 returns-2 c =
-    let at-loop = c .before in
-    let start = at-loop .before .before .before in
+    let chose = c .before .before .before .before in
+    let summed = chose .before in
+    let first = summed .before .before in
+    let start = first .before .before in
     let args = start .args in
     record {
-      speed = λ t of.
-          none-qualifies t (args .t1) (args .speed-count) (jobsAt (t .jobs) (args .places .now)) (at-loop .loop .i)
-          (omega (arith, start .pre .in-range .few)) (omega arith) (of .speeds-of) (at-loop .loop .inv .1 t of);
+      speed = λ t v of.
+          over-budget t v (args .t1) (args .speed-count) (omega (arith, start .pre .in-range .few)) (of .speeds-of)
+          (jobsAt (t .jobs) (args .places .now)) (first .first-in-time .result) (summed .total-cycles .result)
+          (chose .cheapest-from .result) (summed .total-cycles .ensures .total (t .jobs) (of .runs-of .cycles-of))
+          (some-in-time summed) (first .first-in-time .ensures .late-before t v of)
+          (first .first-in-time .ensures .in-time-from t v of) (chose .cheapest-from .ensures)
+          (omega (arith, c .if2 .taken, of .terms-of .budget));
       energy = λ t of. no-speed-no-energy (jobsAt (t .jobs) (args .places .now));
+    }
+
+returns-3 : tie.Need-returns-3
+returns-3 c =
+    let chose = c .before .before .before .before in
+    let summed = chose .before in
+    let first = summed .before .before in
+    let start = first .before .before in
+    let args = start .args in
+    let speed = getD (args .t1) (chose .cheapest-from .result) noSpeed in
+    record {
+      speed = λ t v of.
+          in-budget t v (args .t1) (args .speed-count) (omega (arith, start .pre .in-range .few)) (of .speeds-of)
+          (jobsAt (t .jobs) (args .places .now)) (first .first-in-time .result) (summed .total-cycles .result)
+          (chose .cheapest-from .result) (summed .total-cycles .ensures .total (t .jobs) (of .runs-of .cycles-of))
+          (some-in-time summed) (first .first-in-time .ensures .late-before t v of)
+          (first .first-in-time .ensures .in-time-from t v of) (chose .cheapest-from .ensures)
+          (omega (arith, c .if2 .left, of .terms-of .budget));
+      energy = λ t of.
+          energy-reckoned (jobsAt (t .jobs) (args .places .now)) speed (summed .total-cycles .result)
+          (summed .total-cycles .ensures .total (t .jobs) (of .runs-of .cycles-of));
     }
 
 pub choose-speed-spec : {M : Type 1} → statement M
 choose-speed-spec =
     tie.close
     (tie.spec
-    Inv-loop
-    μ-loop
+    first-in-time-requires
+    returns
     total-cycles-requires
-    loop-holds
+    cheapest-from-requires
     mul-speed
     array-copy-out-speed
     mul-energy
-    qualifies-requires
-    returns
-    add-i
-    loop-less
-    loop-again
-    returns-2)
+    returns-2
+    returns-3)
