@@ -1,35 +1,20 @@
--- Where the numbers rise, the lower number stands before the higher: so a search by halving leaves out no place of the
--- number that it looks for. The place found is that of the first job of the number, since no job before it has as high a
--- number; and where the number stands nowhere, there is no such job. Assumes nothing.
+-- The place found is that of the first job of the number, since numbers rise and no job before it has as high a number; and
+-- where the number stands nowhere, there is no such job. Assumes nothing.
 use mathlib.Core.List.{List, [], _∷_}
 use mathlib.Core.Option.{Option, none, some}
-use mathlib.Core.Path.{_≡_, refl, sym, ap, _∙_}
+use mathlib.Core.Path.{_≡_, refl, sym, _∙_}
 use Prim.Native.Nat.{ℕ, zero, suc, _<_}
 use native.Mathlib.Omega.{arith}
-use borrow.Author.Tests.{eq-eqb, eqb-false, eqb-true, ltb-false, ltb-true, ne-eqb}
-use lib.Dec.{eqb, ltb}
+use borrow.Author.Tests.{eq-eqb, ne-eqb}
+use lib.Dec.{eqb}
 use lib.ListN.{getD, length}
 use Rattle.columns.specs.Columns.{Column}
 use Rattle.columns.specs.LookUp.{RisesTo, StandsAt}
 use Rattle.columns.specs.declared.Found.{Found}
-use Rattle.laws.proofs.Choices.{split}
 use Rattle.laws.proofs.Numbered.{later-greater}
 use Rattle.rules.specs.Lists.{Rising, find}
 use Rattle.rules.specs.TableText.{noJob}
 use Rattle.rules.specs.declared.Job.{Job}
-
-pub lower-before : (numbers : List ℕ) (count p q : ℕ) → RisesTo count numbers → p < count
-    → getD numbers p 0 < getD numbers q 0 → p < q
-lower-before numbers count p q rises h l =
-    split (ltb p q)
-    (λ t. ltb-true p q t)
-    (λ t.
-    let behind = ltb-false p q t in
-    split (eqb p q)
-    (λ e. absurd (omega (arith, ap (λ i. getD numbers i 0) (eqb-true p q e))))
-    (λ e.
-    let other = eqb-false p q e in
-    absurd (omega (arith, rises q p (omega arith) h))))
 
 -- the job found
 abbrev pub foundIn : List Job → Found → Option Job

@@ -24,6 +24,14 @@ less-equal-or-greater (suc m) (suc n) =
     (⊎-elim (λ (e : m ≡ n). inr (inl (ap suc e))) (λ (h : n < m). inr (inr (omega arith))))
     (less-equal-or-greater m n)
 
+-- where the numbers at the first count places rise, the lower of two stands first
+pub lower-first : (at : ℕ → ℕ) (count : ℕ) → ((i k : ℕ) → i < k → k < count → at i < at k) → (p q : ℕ) → p < count → at p < at q
+    → p < q
+lower-first at count rises p q h l =
+    ⊎-elim (λ (m : p < q). m)
+    (⊎-elim (λ (e : p ≡ q). absurd (omega (arith, ap at e))) (λ (m : q < p). absurd (omega (arith, rises q p m h))))
+    (less-equal-or-greater p q)
+
 -- the elements behind the first rise too
 pub rising-others : {A : Type 0} {f : A → ℕ} {x : A} {xs : List A} → Rising f (x ∷ xs) → Rising f xs
 rising-others one-element = no-element
@@ -42,15 +50,6 @@ module _ {A : Type 0} (f : A → ℕ) (d : A) where
   later-greater (x ∷ xs) r p zero l h = absurd (omega arith)
   later-greater (x ∷ xs) r zero (suc q) l h = first-least r q (omega arith)
   later-greater (x ∷ xs) r (suc p) (suc q) l h = later-greater xs (rising-others r) p q (omega arith) (omega arith)
-
-  -- of two, the lower stands first
-  pub lower-first : (xs : List A) → Rising f xs → (p q : ℕ) → p < length xs → f (getD xs p d) < f (getD xs q d) → p < q
-  lower-first xs r p q h l =
-      ⊎-elim
-      (λ (m : p < q). m)
-      (⊎-elim (λ (e : p ≡ q). absurd (omega (arith, ap (λ i. f (getD xs i d)) e)))
-      (λ (m : q < p). absurd (omega (arith, later-greater xs r q p m h))))
-      (less-equal-or-greater p q)
 
 less-not-equal : (m n : ℕ) → m < n → eqb m n ≡ false
 less-not-equal m n l = ne-eqb m n (λ (e : m ≡ n). omega arith)

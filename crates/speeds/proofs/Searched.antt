@@ -6,15 +6,14 @@ use mathlib.Core.Path.{_≡_, sym, ap, _∙_}
 use Prim.Native.Nat.{ℕ, _*_, _≤_, _<_}
 use native.Mathlib.Nat.{mul-zero}
 use native.Mathlib.Omega.{arith}
-use borrow.Author.Tests.{eqb-false, eqb-true, le-leb, lt-leb, ltb-false, ltb-true}
-use lib.Dec.{eqb, leb, ltb}
+use borrow.Author.Tests.{eqb-false, eqb-true, ltb-false, ltb-true}
+use lib.Dec.{eqb, ltb}
 use lib.ListN.{getD, length, take}
 use lib.Seq.{getD-take, length-take-le}
 use Rattle.grammar.proofs.Ranges.{SpeedRanges, speed-ranges}
 use Rattle.laws.proofs.Choices.{clash, split}
 use Rattle.laws.proofs.Elements.{each-at-place}
 use Rattle.laws.proofs.Numbered.{later-greater}
-use Rattle.laws.proofs.Tests.{both-true, not-true-false}
 use Rattle.rules.specs.Plan.{cyclesOf, energyAt, inTime, qualifies, speedFor}
 use Rattle.rules.specs.TableText.{Records, noSpeed}
 use Rattle.rules.specs.Valid.{Valid}
@@ -23,6 +22,7 @@ use Rattle.rules.specs.declared.Speed.{Speed}
 use Rattle.speeds.specs.Promises.{CheapestFrom}
 use Rattle.steps.proofs.Cheapest.{cheapest-taken, none-taken}
 use Rattle.steps.proofs.Faster.{faster-in-time, slower-late}
+use Rattle.steps.proofs.Qualified.{both-qualify, dear-not-qualified, late-not-qualified}
 
 -- the energy is a product
 pub energy-reckoned : (js : List Job) (f : Speed) (total : ℕ) → total ≡ cyclesOf js → total * f .cost ≡ energyAt f js
@@ -32,21 +32,6 @@ energy-reckoned js f total e = rw e
 pub no-speed-no-energy : (js : List Job) → 0 ≡ energyAt noSpeed js
 unfolding energyAt
 no-speed-no-energy js = sym (mul-zero (cyclesOf js))
-
-module _ (t : Records) (js : List Job) (f : Speed) where
-  late-not-qualified : inTime (t .clock) (f .mhz) js ≡ false → qualifies t js f ≡ false
-  unfolding qualifies
-  late-not-qualified e = rw e
-
-  dear-not-qualified : t .budget < energyAt f js → qualifies t js f ≡ false
-  unfolding qualifies
-  dear-not-qualified l =
-      not-true-false (qualifies t js f)
-      (λ q. clash (both-true (inTime (t .clock) (f .mhz) js) (leb (energyAt f js) (t .budget)) q .1) (lt-leb (energyAt f js) (t .budget) l))
-
-  in-time-and-budget : inTime (t .clock) (f .mhz) js ≡ true → energyAt f js ≤ t .budget → qualifies t js f ≡ true
-  unfolding qualifies
-  in-time-and-budget e l = rw e (le-leb (energyAt f js) (t .budget) l)
 
 module _ (t : Records) (valid : Valid t) (speeds : List Speed) (count : ℕ) (places : count ≤ length speeds)
     (of : take count speeds ≡ t .speeds) (js : List Job) where
@@ -104,7 +89,7 @@ module _ (t : Records) (valid : Valid t) (speeds : List Speed) (count : ℕ) (pl
         (λ l. clash q (late-not-qualified t js (at i) (late-before i (ltb-true i first l))))
         (λ l. ltb-false i first l)
 
-    pub over-budget : t .budget < total * at r .cost → noSpeed ≡ speedFor t js
+    over-budget : t .budget < total * at r .cost → noSpeed ≡ speedFor t js
     over-budget dear =
         none-found (λ i h.
         split (ltb i first)
@@ -116,15 +101,15 @@ module _ (t : Records) (valid : Valid t) (speeds : List Speed) (count : ℕ) (pl
         dearer : (i : ℕ) → total * at r .cost ≤ total * at i .cost → t .budget < total * at i .cost
         dearer i l = omega arith
 
-    pub in-budget : total * at r .cost ≤ t .budget → at r ≡ speedFor t js
+    in-budget : total * at r .cost ≤ t .budget → at r ≡ speedFor t js
     in-budget l =
         sym (of-table r there)
         ∙ cheapest-taken t js r
         (record {
           inside = omega (arith, as-many, there);
-          passes = rw (of-table r there) (in-time-and-budget t js (at r) (in-time-from r (cheapest .from-first) there) (rw (energy-of r) at l));
+          passes = rw (of-table r there) (both-qualify t js (at r) (in-time-from r (cheapest .from-first) there) (rw (energy-of r) at l));
           none-less = λ i h q. no-less i (omega (arith, as-many)) q;
-          before-more = λ i h q. more i h q;
+          before-more = more;
         })
       where
         there : r < count
@@ -145,3 +130,7 @@ module _ (t : Records) (valid : Valid t) (speeds : List Speed) (count : ℕ) (pl
             let before : i < count = omega (arith, there) in
             rw (of-table r there, of-table i before)
             (rw (energy-of r, energy-of i) at (cheapest .before-more i (qualified i before q) h))
+
+    pub cheapest-decided : (t .budget < total * at r .cost → noSpeed ≡ speedFor t js)
+        × (total * at r .cost ≤ t .budget → at r ≡ speedFor t js)
+    cheapest-decided = (over-budget, in-budget)

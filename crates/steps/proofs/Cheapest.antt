@@ -1,8 +1,9 @@
 -- Step 9's speed by its place: it qualifies, none that qualifies has less energy, and no lower one as little. Where some
 -- speed qualifies there is such a place, found along the speeds; where none does, step 9 names none. This is the only file
 -- that opens the rule itself: all others speak of the place. Assumes nothing.
-use mathlib.Core.Bool.{Bool, true, false}
+use mathlib.Core.Bool.{Bool, true, false, _&&_}
 use mathlib.Core.List.{List, [], _∷_}
+use mathlib.Core.Logic.{⊎-elim}
 use mathlib.Core.Option.{some}
 use mathlib.Core.Path.{_≡_, refl, sym, ap}
 use Prim.Native.Nat.{ℕ, zero, suc, _≤_, _<_}
@@ -11,10 +12,11 @@ use native.Mathlib.Omega.{arith}
 use borrow.Author.Tests.{le-leb, leb-false, leb-true}
 use lib.Dec.{leb}
 use lib.ListN.{getD, length}
-use Rattle.laws.proofs.Choices.{clash, split}
+use Rattle.laws.proofs.Choices.{clash, or-split, split}
 use Rattle.laws.proofs.Elements.{each-at-place, each-of-places, each-too}
 use Rattle.laws.proofs.Lookups.{all-each, any-none, each-all, each-kept, kept-each}
-use Rattle.laws.proofs.Tests.{not-true-false}
+use Rattle.laws.proofs.Tests.{both-true, not-true-false}
+use Rattle.steps.proofs.Qualified.{both-qualify}
 use Rattle.rules.specs.Lists.{Each, any, find, keep}
 use Rattle.rules.specs.Plan.{cyclesOf, energyAt, inTime, leastEnergy, qualifies, runsFrom, runsOf, speedFor, speedOr}
 use Rattle.rules.specs.TableText.{Records, noSpeed}
@@ -44,22 +46,14 @@ module _ {A : Type 0} (q : A → Bool) (d : A) where
     pub before-more : (i : ℕ) → i < k → q (getD xs i d) ≡ true → size (getD xs k d) < size (getD xs i d)
 
   module _ (size : A → ℕ) where
-    -- the first alone passes
-    only-first : (x : A) (xs : List A) → q x ≡ true → any q xs ≡ false → LeastAt size (x ∷ xs) 0
-    only-first x xs g none-other = record { inside = omega arith; passes = g; none-less = least; before-more = λ i l. absurd (omega arith) }
+    -- the first is as small as each of the others that passes
+    first-least : (x : A) (xs : List A) → q x ≡ true
+        → ((i : ℕ) → i < length xs → q (getD xs i d) ≡ true → size x ≤ size (getD xs i d)) → LeastAt size (x ∷ xs) 0
+    first-least x xs g others = record { inside = omega arith; passes = g; none-less = least; before-more = λ i l. absurd (omega arith) }
       where
         least : (i : ℕ) → i < length (x ∷ xs) → q (getD (x ∷ xs) i d) ≡ true → size x ≤ size (getD (x ∷ xs) i d)
         least zero l e = omega arith
-        least (suc i) l e = clash e (each-at-place d (any-none q xs none-other) i (omega arith))
-
-    -- the first is as small as the least of the others
-    first-too : (x : A) (xs : List A) (k : ℕ) → q x ≡ true → LeastAt size xs k → size x ≤ size (getD xs k d)
-        → LeastAt size (x ∷ xs) 0
-    first-too x xs k g at h = record { inside = omega arith; passes = g; none-less = least; before-more = λ i l. absurd (omega arith) }
-      where
-        least : (i : ℕ) → i < length (x ∷ xs) → q (getD (x ∷ xs) i d) ≡ true → size x ≤ size (getD (x ∷ xs) i d)
-        least zero l e = omega arith
-        least (suc i) l e = omega (arith, at .none-less i (omega arith) e)
+        least (suc i) l e = others i (omega arith) e
 
     -- the first does not pass, or is greater than the least of the others
     behind-first : (x : A) (xs : List A) (k : ℕ) → (q x ≡ true → size (getD xs k d) < size x) → LeastAt size xs k
@@ -79,16 +73,23 @@ module _ {A : Type 0} (q : A → Bool) (d : A) where
     least-there : (xs : List A) → any q xs ≡ true → (k : ℕ) × LeastAt size xs k
     least-there [] h = clash h refl
     least-there (x ∷ xs) h =
-        split (q x)
-        (λ g. split (any q xs)
+        split (any q xs)
         (λ more.
         let others = least-there xs more in
         let k = others .0 in
-        split (leb (size x) (size (getD xs k d)))
-        (λ l. (0, first-too x xs k g (others .1) (leb-true _ _ l)))
-        (λ l. (suc k, behind-first x xs k (λ e. leb-false _ _ l) (others .1))))
-        (λ none-other. (0, only-first x xs g none-other)))
-        (λ g. let others = least-there xs (rw g at h) in (suc (others .0), behind-first x xs (others .0) (λ e. clash e g) (others .1)))
+        let at = others .1 in
+        let small = leb (size x) (size (getD xs k d)) in
+        split (q x && small)
+        (λ b.
+        let both = both-true (q x) small b in
+        let least : size x ≤ size (getD xs k d) = leb-true _ _ (both .1) in
+        (0, first-least x xs (both .0) (λ i l e. omega (arith, at .none-less i l e))))
+        (λ b. (suc k, behind-first x xs k (λ e. leb-false _ _ (rw e at b)) at)))
+        (λ no-other. (
+          0,
+          first-least x xs (⊎-elim (λ (g : q x ≡ true). g) (λ (g : any q xs ≡ true). clash g no-other) (or-split (q x) (any q xs) h))
+              (λ i l e. clash e (each-at-place d (any-none q xs no-other) i l)),
+        ))
 
 module _ (t : Records) (js : List Job) where
   abbrev at : ℕ → Speed
@@ -153,8 +154,8 @@ unfolding energyAt cyclesOf
 empty-costs-nothing f = zero-mul (f .cost)
 
 empty-qualifies : (t : Records) (f : Speed) → qualifies t [] f ≡ true
-unfolding qualifies inTime runsOf runsFrom
-empty-qualifies t f = le-leb (energyAt f []) (t .budget) (omega (arith, empty-costs-nothing f))
+unfolding inTime runsOf runsFrom
+empty-qualifies t f = both-qualify t [] f refl (omega (arith, empty-costs-nothing f))
 
 pub empty-takes-first : (t : Records) → 1 ≤ length (t .speeds) → getD (t .speeds) 0 noSpeed ≡ speedFor t []
 empty-takes-first t h =

@@ -10,6 +10,7 @@ pub mod RunOrder
 pub mod Course
 mod Totals
 pub mod Faster
+pub mod Qualified
 pub mod Cheapest
 pub mod Speeds
 pub mod Planned

@@ -5,25 +5,25 @@
 use mathlib.Core.Bool.{Bool, true, false}
 use mathlib.Core.List.{List, [], _∷_}
 use mathlib.Core.Logic.{_⊎_, inl, inr, ⊎-elim}
-use mathlib.Core.Path.{_≡_, refl}
+use mathlib.Core.Path.{_≡_, refl, sym, ap, _∙_}
 use Prim.Native.Nat.{ℕ, _+_, _*_, _-_, _/_, _<_, _≤_}
 use native.Mathlib.Nat.{add-mul, lt-of-mul-lt-mul-right, mul-comm, mul-div-le}
 use native.Mathlib.Omega.{arith}
-use borrow.Author.Tests.{le-leb, leb-false, leb-true}
+use borrow.Author.Tests.{leb-false, leb-true}
 use lib.Dec.{leb}
 use lib.ListN.{getD, length}
 use Rattle.laws.proofs.Choices.{or-left, or-right, split}
-use Rattle.steps.proofs.Cheapest.{CheapestAt, cheapest-taken, cheapest-there}
+use Rattle.steps.proofs.Cheapest.{CheapestAt, cheapest-taken, cheapest-there, empty-costs-nothing, empty-takes-first}
 use Rattle.steps.proofs.Course.{Sound, plan-sound}
+use Rattle.steps.proofs.Qualified.{both-qualify, qualified-both}
 use Rattle.laws.proofs.Elements.{each-at-place, each-last, each-of-places, each-too}
 use Rattle.laws.proofs.Lookups.{all-each}
-use Rattle.laws.proofs.Numbered.{lower-first}
+use Rattle.laws.proofs.Numbered.{later-greater, lower-first}
 use Rattle.grammar.proofs.Ranges.{SpeedRanges, speed-ranges}
-use Rattle.laws.proofs.Tests.{both-true}
 use Rattle.rules.specs.Costs.{roundedUp}
 use Rattle.rules.specs.Listing.{finish}
 use Rattle.rules.specs.Lists.{Each, any, lastOr}
-use Rattle.rules.specs.Plan.{Entry, Run, courseOf, cyclesOf, endsBy, endsInTime, energyAt, inTime, planFrom, planOf, qualifies, runsOf, speedFor, topOf, runOrder}
+use Rattle.rules.specs.Plan.{Entry, Run, courseOf, endsBy, endsInTime, energyAt, inTime, planFrom, planOf, qualifies, runsOf, speedFor, topOf, runOrder}
 use Rattle.rules.specs.TableText.{Records, noSpeed}
 use Rattle.rules.specs.Valid.{Valid}
 use Rattle.rules.specs.declared.Job.{Job}
@@ -36,8 +36,8 @@ last-passes p d (f ∷ []) n h = or-left (p f) false h
 last-passes p d (f ∷ (g ∷ fs)) n h = or-right (p f) (any p (g ∷ fs)) (last-passes p f (g ∷ fs) (omega arith) h)
 
 top-qualifies : (t : Records) (p : List Entry) → Sound t p → qualifies t (runOrder t p) (topOf t) ≡ true
-unfolding qualifies energyAt
-top-qualifies t p s = rw (s .in-time) (le-leb (cyclesOf (runOrder t p) * topOf t .cost) (t .budget) (s .in-budget))
+unfolding energyAt
+top-qualifies t p s = both-qualify t (runOrder t p) (topOf t) (s .in-time) (s .in-budget)
 
 -- The speed that step 9 names: it is one of the table's and qualifies, none that qualifies has less energy, and no lower one
 -- as little.
@@ -55,7 +55,9 @@ chosen-at t v js k c =
       qualified = c .passes;
       cheapest = each-of-places noSpeed (t .speeds) (c .none-less);
       lowest = each-of-places noSpeed (t .speeds) (λ i h q l.
-          c .before-more i (lower-first (λ (f : Speed). f .mhz) noSpeed (t .speeds) (v .speeds-rise) i k h l) q);
+          c .before-more i
+          (lower-first (λ n. getD (t .speeds) n noSpeed .mhz) (length (t .speeds))
+          (later-greater (λ (f : Speed). f .mhz) noSpeed (t .speeds) (v .speeds-rise)) i k h l) q);
     }
 
 -- Step 9 finds a speed for any sound plan.
@@ -84,16 +86,15 @@ module _ (t : Records) (v : Valid t) where
   unfolding planOf planFrom
   plan-speed = speed-chosen t v (courseOf t .plan) (plan-sound t v)
 
-  qualified-parts : (inTime (t .clock) (planOf t .speed .mhz) (planOf t .jobs) ≡ true)
-      × (leb (energyAt (planOf t .speed) (planOf t .jobs)) (t .budget) ≡ true)
-  unfolding qualifies
-  qualified-parts =
-      both-true (inTime (t .clock) (planOf t .speed .mhz) (planOf t .jobs))
-      (leb (energyAt (planOf t .speed) (planOf t .jobs)) (t .budget)) (plan-speed .qualified)
-
   pub energy-in-budget : planOf t .energy ≤ t .budget
   unfolding planOf planFrom
-  energy-in-budget = leb-true (energyAt (planOf t .speed) (planOf t .jobs)) (t .budget) (qualified-parts .1)
+  energy-in-budget = qualified-both t (planOf t .jobs) (planOf t .speed) (plan-speed .qualified) .1
+
+  -- "An empty plan takes the first speed and energy 0."
+  pub nothing-planned : planOf t .jobs ≡ [] → (planOf t .speed ≡ getD (t .speeds) 0 noSpeed) × (planOf t .energy ≡ 0)
+  unfolding planOf planFrom
+  nothing-planned e =
+      (ap (speedFor t) e ∙ sym (empty-takes-first t (v .some-speed)), ap (energyAt (planOf t .speed)) e ∙ empty-costs-nothing (planOf t .speed))
 
   -- all cycles at top cost are within budget
   pub top-cost-in-budget : energyAt (topOf t) (planOf t .jobs) ≤ t .budget
@@ -103,11 +104,10 @@ module _ (t : Records) (v : Valid t) where
   -- a speed in time qualifies, or is over the budget
   in-time-dear : (g : Speed) → inTime (t .clock) (g .mhz) (planOf t .jobs) ≡ true
       → (qualifies t (planOf t .jobs) g ≡ true) ⊎ (t .budget < energyAt g (planOf t .jobs))
-  unfolding qualifies
   in-time-dear g e =
       split (leb (energyAt g (planOf t .jobs)) (t .budget))
-      (λ l. inl (rw (e, l)))
-      (λ l. inr (leb-false (energyAt g (planOf t .jobs)) (t .budget) l))
+      (λ l. inl (both-qualify t (planOf t .jobs) g e (leb-true _ _ l)))
+      (λ l. inr (leb-false _ _ l))
 
   -- of all speeds in time, within budget or not, none has less energy
   pub none-has-less : Each (λ (g : Speed). inTime (t .clock) (g .mhz) (planOf t .jobs) ≡ true
@@ -136,7 +136,9 @@ module _ (t : Records) (v : Valid t) where
 
   pub planned-end-in-time : Each (λ r. endsInTime (t .clock) (planOf t .speed .mhz) r ≡ true) (runsOf (planOf t .jobs))
   unfolding inTime
-  planned-end-in-time = all-each (endsInTime (t .clock) (planOf t .speed .mhz)) (runsOf (planOf t .jobs)) (qualified-parts .0)
+  planned-end-in-time =
+      all-each (endsInTime (t .clock) (planOf t .speed .mhz)) (runsOf (planOf t .jobs))
+      (qualified-both t (planOf t .jobs) (planOf t .speed) (plan-speed .qualified) .0)
 
   -- the speed is one of the table's
   pub plan-speed-in-range : SpeedRanges (planOf t .speed)

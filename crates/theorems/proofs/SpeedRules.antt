@@ -4,7 +4,7 @@
 use mathlib.Core.Bool.{Bool, true}
 use mathlib.Core.List.{List, _∷_}
 use mathlib.Core.Option.{some}
-use mathlib.Core.Path.{_≡_, refl, sym, ap}
+use mathlib.Core.Path.{_≡_, refl, ap}
 use Prim.Native.Nat.{ℕ, _*_, _<_, _≤_}
 use native.Mathlib.Nat.{mul-le-mul}
 use native.Mathlib.Omega.{arith}
@@ -30,26 +30,23 @@ pub by-the-rule : (t : Records) → planBy speedFor t ≡ planOf t
 unfolding planBy planOf planFrom
 by-the-rule t = refl
 
--- two rules, one course
-pub one-course : (a b : SpeedRule) (t : Records) → (planBy a t .jobs ≡ planBy b t .jobs) × (planBy a t .fates ≡ planBy b t .fates)
-unfolding planBy
-one-course a b t = (refl, refl)
-
+-- they are those of the course
 pub rule-leaves-plan-and-fates : (rule : SpeedRule) (t : Records)
     → (planBy rule t .jobs ≡ planOf t .jobs) × (planBy rule t .fates ≡ planOf t .fates)
-rule-leaves-plan-and-fates rule t = rw (sym (by-the-rule t)) (one-course rule speedFor t)
+unfolding planBy planOf planFrom
+rule-leaves-plan-and-fates rule t = (refl, refl)
 
 -- what is found in a rising list is the least that passes
-first-least : {A : Type 0} (f : A → ℕ) (p : A → Bool) {xs : List A} {y : A} → Pairwise (λ x z. f x < f z) xs
+found-least : {A : Type 0} (f : A → ℕ) (p : A → Bool) {xs : List A} {y : A} → Pairwise (λ x z. f x < f z) xs
     → find p xs ≡ some y
     → Each (λ x. p x ≡ true → f y ≤ f x) xs
-first-least f p no-pair h = none-left
-first-least f p {xs = x ∷ xs} {y} (r then rs) h =
+found-least f p no-pair h = none-left
+found-least f p {xs = x ∷ xs} {y} (r then rs) h =
     split (p x)
     (λ g. let e : x ≡ y = one-there {o = some x} refl (rw g at h) in
     let same : f x ≡ f y = ap f e in
     (λ c. omega arith) and each-too (λ z l c. omega arith) r)
-    (λ g. (λ c. clash c g) and first-least f p rs (rw g at h))
+    (λ g. (λ c. clash c g) and found-least f p rs (rw g at h))
 
 -- at a higher speed nothing ends later
 faster-finish : (clock slow fast : ℕ) (r : Run) → 1 ≤ slow → slow ≤ fast → finish clock fast r ≤ finish clock slow r
@@ -86,7 +83,7 @@ module _ (t : Records) (v : Valid t) (js : List Job) (f : Speed) (c : SpeedChose
   no-lower =
       rw lowest-found
       (rw (c .of-table .2) at
-      (each-at-place noSpeed (first-least (λ (g : Speed). g .mhz) (qualifies t js) (rising-pairs (v .speeds-rise)) (lowest-there .1))
+      (each-at-place noSpeed (found-least (λ (g : Speed). g .mhz) (qualifies t js) (rising-pairs (v .speeds-rise)) (lowest-there .1))
       (c .of-table .0) (c .of-table .1) (rw (c .of-table .2) (c .qualified))))
 
   no-dearer : energyAt f js ≤ energyAt (lowestFor t js) js

@@ -7,7 +7,7 @@ use mathlib.Core.Option.{none}
 use mathlib.Core.Path.{_≡_, refl}
 use Prim.Native.Nat.{_+_, _*_, _≤_, _<_}
 use lib.Dec.{eqb}
-use lib.ListN.{length}
+use lib.ListN.{getD, length}
 use Rattle.theorems.proofs.Again.{again, all-planned-again, planned, planned-again}
 use Rattle.steps.proofs.Course.{AtEachTurn, at-each-turn-of}
 use Rattle.laws.proofs.Elements.{each-too}
@@ -19,13 +19,13 @@ use Rattle.steps.proofs.Overtaken.{TakesIn, lacking, only-five-overtaken, plan-
 use Rattle.laws.specs.Pairs.{Distinct}
 use Rattle.steps.proofs.Planned.{HoldersBefore, each-fated, holders-before, one-exactly-for-planned, plan-counts-ones, planned-once, sound-holders-before}
 use Rattle.steps.proofs.Rings.{OnRing, Reaches, chain-at-most-33, last-waits-for-nobody, no-ring-left, one-leaves-each-ring, taken-only-from-rings}
-use Rattle.steps.proofs.Speeds.{SpeedChosen, energy-at-most-top, energy-in-budget, finish-in-time, no-lower-as-little, none-has-less, plan-speed, planned-end-in-time, top-cost-in-budget}
+use Rattle.steps.proofs.Speeds.{SpeedChosen, energy-at-most-top, energy-in-budget, finish-in-time, no-lower-as-little, none-has-less, nothing-planned, plan-speed, planned-end-in-time, top-cost-in-budget}
 use Rattle.theorems.proofs.SpeedRules.{SinceVersionFour, by-the-rule, rule-leaves-plan-and-fates, since-version-four}
 use Rattle.theorems.specs.SpeedRules.{SpeedRule, planBy}
 use Rattle.rules.specs.Listing.{finish}
 use Rattle.rules.specs.Lists.{Each, keep, lastOr}
 use Rattle.rules.specs.Plan.{Entry, Fated, chainOf, courseOf, cyclesOf, endsInTime, energyAt, fateBudget, fatePlanned, fateTime, fatesOf, inPlan, inTime, jobsOf, leavesItsRing, left, numbersOf, planFrom, planOf, runsOf, noTurnYet, speedFor, timely, topOf, turn, turns, waitsLeft, waitsTimely, runOrder}
-use Rattle.rules.specs.TableText.{Records, noJob}
+use Rattle.rules.specs.TableText.{Records, noJob, noSpeed}
 use Rattle.rules.specs.Valid.{Valid}
 use Rattle.rules.specs.declared.Job.{Job}
 use Rattle.rules.specs.declared.Speed.{Speed}
@@ -85,12 +85,14 @@ pub record Promises (t : Records) : Type 0 where
   pub same-again : Alone (planned t) t
   pub planned-all-again : Each (λ (i : Fated). i .fate ≡ fatePlanned) (planOf (again t) .fates)
   -- 11. Of all speeds at which every planned job ends in time, none has less energy than the plan, and no lower one as little:
-  -- also of those over the budget, which cost more than what is within it. The energy never exceeds that at top speed. Plan and
-  -- fates do not depend on the rule of step 9; against version four's, the lowest speed that qualifies, nothing ends later.
+  -- also of those over the budget, which cost more than what is within it. With nothing planned it is the first speed. The
+  -- energy never exceeds that at top speed. Plan and fates do not depend on the rule of step 9; against version four's, the
+  -- lowest speed that qualifies, nothing ends later.
   pub least-energy : Each (λ (g : Speed). inTime (t .clock) (g .mhz) (planOf t .jobs) ≡ true
       → planOf t .energy ≤ energyAt g (planOf t .jobs)) (t .speeds)
   pub lowest-of-equals : Each (λ (g : Speed). inTime (t .clock) (g .mhz) (planOf t .jobs) ≡ true
       → g .mhz < planOf t .speed .mhz → planOf t .energy < energyAt g (planOf t .jobs)) (t .speeds)
+  pub first-speed-for-nothing : planOf t .jobs ≡ [] → (planOf t .speed ≡ getD (t .speeds) 0 noSpeed) × (planOf t .energy ≡ 0)
   pub at-most-top-energy : planOf t .energy ≤ energyAt (topOf t) (planOf t .jobs)
   pub by-step-9 : planBy speedFor t ≡ planOf t
   pub any-speed-rule : (rule : SpeedRule) → (planBy rule t .jobs ≡ planOf t .jobs) × (planBy rule t .fates ≡ planOf t .fates)
@@ -140,6 +142,7 @@ module _ (t : Records) (v : Valid t) where
         planned-all-again = all-planned-again t v;
         least-energy = none-has-less t v;
         lowest-of-equals = no-lower-as-little t v;
+        first-speed-for-nothing = nothing-planned t v;
         at-most-top-energy = energy-at-most-top t v;
         by-step-9 = by-the-rule t;
         any-speed-rule = λ rule. rule-leaves-plan-and-fates rule t;

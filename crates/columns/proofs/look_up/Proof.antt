@@ -7,10 +7,10 @@ use Prim.Native.Nat.{ℕ, _+_, _-_, _≤_, _<_, _/_}
 use native.Mathlib.Omega.{arith}
 use borrow.Author.Needs.{needs}
 use lib.ListN.{getD}
-use Rattle.columns.proofs.LookedUp.{lower-before}
 use Rattle.columns.proofs.look_up.Statement.{statement}
 use Rattle.columns.proofs.look_up.Tie as tie
 use Rattle.columns.specs.LookUp.{RisesTo}
+use Rattle.laws.proofs.Numbered.{lower-first}
 
 -- each place of the number lies between low and high
 record Between (numbers : List ℕ) (count number low high : ℕ) : Type 0 where
@@ -60,7 +60,7 @@ loop-again c =
     record {
       inside = loop .inv .inside;
       from-low = λ rises p h e.
-          omega (arith, lower-before (args .numbers .now) (args .count) middle p rises (omega arith) (omega arith));
+          omega (arith, lower-first (λ i. getD (args .numbers .now) i 0) (args .count) rises middle p (omega arith) (omega arith));
       below-high = loop .inv .below-high;
     }
 
@@ -76,7 +76,7 @@ loop-again-2 c =
       inside = omega arith;
       from-low = loop .inv .from-low;
       below-high = λ rises p h e.
-          lower-before (args .numbers .now) (args .count) p middle rises h (omega arith);
+          lower-first (λ i. getD (args .numbers .now) i 0) (args .count) rises p middle h (omega arith);
     }
 
 returns-2 : tie.Need-returns-2 Inv-loop μ-loop

@@ -1,16 +1,20 @@
 -- `speeds::choose_speed` meets its contract: where no speed is in time none qualifies; else the cheapest of those in time is
 -- the rules', if it is within budget, and if it is over, none qualifies. In the ranges the energy does not wrap. Assumes
 -- nothing.
+use mathlib.Core.Path.{_≡_}
 use Prim.Native.Nat.{_*_, _≤_, _<_}
 use native.Mathlib.Nat.{mul-le-mul}
 use native.Mathlib.Omega.{arith}
 use borrow.Author.Needs.{needs}
 use lib.ListN.{getD}
 use Rattle.columns.specs.Columns.{jobsAt}
-use Rattle.rules.specs.TableText.{mostCycles, mostJobs, noSpeed}
-use Rattle.speeds.proofs.Searched.{all-late, energy-reckoned, in-budget, no-speed-no-energy, over-budget}
+use Rattle.rules.specs.Plan.{speedFor}
+use Rattle.rules.specs.TableText.{Records, mostCycles, mostJobs, noSpeed}
+use Rattle.rules.specs.Valid.{Valid}
+use Rattle.speeds.proofs.Searched.{all-late, cheapest-decided, energy-reckoned, no-speed-no-energy}
 use Rattle.speeds.proofs.choose_speed.Statement.{statement}
 use Rattle.speeds.proofs.choose_speed.Tie as tie
+use Rattle.speeds.specs.Promises.{SpeedsOf}
 
 first-in-time-requires : tie.Need-first-in-time-requires
 first-in-time-requires c κs = search needs
@@ -62,21 +66,30 @@ mul-energy c =
       mul-le-mul (total-within (chose .before)) (start .pre .in-range .cost (chose .cheapest-from .result) (there chose)),
     )
 
+-- the cheapest of the speeds in time, as the budget decides
+by-budget : (c : tie.After-cheapest-from) (t : Records) → Valid t
+    → let args = c .before .before .before .before .before .args in
+    let js = jobsAt (t .jobs) (args .places .now) in
+    let speed = getD (args .t1) (c .cheapest-from .result) noSpeed in
+    let energy = c .before .total-cycles .result * speed .cost in
+    SpeedsOf t (args .t1) (args .speed-count) (args .cycles .now) (args .termination .now) (args .terms)
+    → (t .budget < energy → noSpeed ≡ speedFor t js) × (energy ≤ t .budget → speed ≡ speedFor t js)
+by-budget c t v of =
+    let summed = c .before in
+    let first = summed .before .before .first-in-time in
+    let start = summed .before .before .before .before in
+    let args = start .args in
+    cheapest-decided t v (args .t1) (args .speed-count) (omega (arith, start .pre .in-range .few)) (of .speeds-of)
+    (jobsAt (t .jobs) (args .places .now)) (first .result) (summed .total-cycles .result) (c .cheapest-from .result)
+    (summed .total-cycles .ensures .total (t .jobs) (of .runs-of .cycles-of)) (some-in-time summed)
+    (first .ensures .late-before t v of) (first .ensures .in-time-from t v of) (c .cheapest-from .ensures)
+
 returns-2 : tie.Need-returns-2
 returns-2 c =
     let chose = c .before .before .before .before in
-    let summed = chose .before in
-    let first = summed .before .before in
-    let start = first .before .before in
-    let args = start .args in
+    let args = chose .before .before .before .before .before .args in
     record {
-      speed = λ t v of.
-          over-budget t v (args .t1) (args .speed-count) (omega (arith, start .pre .in-range .few)) (of .speeds-of)
-          (jobsAt (t .jobs) (args .places .now)) (first .first-in-time .result) (summed .total-cycles .result)
-          (chose .cheapest-from .result) (summed .total-cycles .ensures .total (t .jobs) (of .runs-of .cycles-of))
-          (some-in-time summed) (first .first-in-time .ensures .late-before t v of)
-          (first .first-in-time .ensures .in-time-from t v of) (chose .cheapest-from .ensures)
-          (omega (arith, c .if2 .taken, of .terms-of .budget));
+      speed = λ t v of. by-budget chose t v of .0 (omega (arith, c .if2 .taken, of .terms-of .budget));
       energy = λ t of. no-speed-no-energy (jobsAt (t .jobs) (args .places .now));
     }
 
@@ -84,18 +97,10 @@ returns-3 : tie.Need-returns-3
 returns-3 c =
     let chose = c .before .before .before .before in
     let summed = chose .before in
-    let first = summed .before .before in
-    let start = first .before .before in
-    let args = start .args in
+    let args = summed .before .before .before .before .args in
     let speed = getD (args .t1) (chose .cheapest-from .result) noSpeed in
     record {
-      speed = λ t v of.
-          in-budget t v (args .t1) (args .speed-count) (omega (arith, start .pre .in-range .few)) (of .speeds-of)
-          (jobsAt (t .jobs) (args .places .now)) (first .first-in-time .result) (summed .total-cycles .result)
-          (chose .cheapest-from .result) (summed .total-cycles .ensures .total (t .jobs) (of .runs-of .cycles-of))
-          (some-in-time summed) (first .first-in-time .ensures .late-before t v of)
-          (first .first-in-time .ensures .in-time-from t v of) (chose .cheapest-from .ensures)
-          (omega (arith, c .if2 .left, of .terms-of .budget));
+      speed = λ t v of. by-budget chose t v of .1 (omega (arith, c .if2 .left, of .terms-of .budget));
       energy = λ t of.
           energy-reckoned (jobsAt (t .jobs) (args .places .now)) speed (summed .total-cycles .result)
           (summed .total-cycles .ensures .total (t .jobs) (of .runs-of .cycles-of));
