@@ -1,8 +1,14 @@
-/* Plans a table with Cuddlelamb's calls: plan [FILE], or the table on standard input.
- * It prints the plan, the fates and the listing, then what a call says that refuses, an allocation and a cost table. */
+/* Reads a table once and plans it with each budget named: plan FILE [BUDGET ..], where FILE - is standard input.
+ * Without a budget it takes the table's own. It prints the plans and the fates, the listings, then what a call says that
+ * refuses, an allocation and a cost table.
+ * Exit status: 1 where the table or a budget was refused; 2 where there is no table to read, where a budget is no
+ * number, and where the output cannot be written. */
 #include <cuddlelamb.h>
 #include <inttypes.h>
+#include <stdbool.h>
 #include <stdio.h>
+#include <stdlib.h>
+#include <string.h>
 
 /* As many as the program reads; a valid text is shorter. */
 enum { MOST_READ = 4096 };
@@ -19,22 +25,35 @@ static void print_refusal(const char *call, uint64_t number, uint64_t line) {
     printf("%s: refused %" PRIu64 ", line %" PRIu64 "\n", call, number, line);
 }
 
-/* The plan and the fates; a fate belongs to the job of the J line at its place, which the table says. */
-static int print_plan(const uint8_t *text, size_t length) {
+/* The plan and the fates with one budget, or its refusal; a fate belongs to the job at its place in the table. */
+static bool print_plan(const struct cuddlelamb_table *table, uint64_t budget) {
     uint64_t order[CUDDLELAMB_JOBS] = {0};
     uint64_t fates[CUDDLELAMB_JOBS] = {0};
-    struct cuddlelamb_plan_answer plan = cuddlelamb_plan(text, length, order, CUDDLELAMB_JOBS, fates, CUDDLELAMB_JOBS);
+    struct cuddlelamb_plan_answer plan =
+        cuddlelamb_plan(*table, budget, order, CUDDLELAMB_JOBS, fates, CUDDLELAMB_JOBS);
+    printf("plan with budget %" PRIu64, budget);
     if (plan.number != 0) {
-        print_refusal("plan", plan.number, plan.line);
-        return 1;
+        print_refusal("", plan.number, plan.line);
+        return false;
     }
-    printf("plan: %" PRIu64 " jobs at %" PRIu64 " MHz for %" PRIu64 " units\n", plan.count, plan.speed, plan.energy);
+    printf(": %" PRIu64 " jobs at %" PRIu64 " MHz for %" PRIu64 " units\n", plan.count, plan.speed, plan.energy);
     print_places("order", order, plan.count);
-    struct cuddlelamb_table_answer read = cuddlelamb_read(text, length);
-    for (uint64_t at = 0; at < read.table.job_count; at++) {
-        printf("job %" PRIu64 ": fate %" PRIu64 "\n", read.table.jobs[at].number, fates[at]);
+    for (uint64_t at = 0; at < table->job_count; at++) {
+        printf("job %" PRIu64 ": fate %" PRIu64 "\n", table->jobs[at].number, fates[at]);
     }
-    return 0;
+    return true;
+}
+
+/* A plan for each budget, or one for the table's own where none is named; whether none was refused. */
+static bool print_plans(const struct cuddlelamb_table *table, const uint64_t *budgets, size_t count) {
+    if (count == 0) {
+        return print_plan(table, table->budget);
+    }
+    bool good = true;
+    for (size_t at = 0; at < count; at++) {
+        good = print_plan(table, budgets[at]) && good;
+    }
+    return good;
 }
 
 static void print_listing(const uint8_t *text, size_t length) {
@@ -44,11 +63,19 @@ static void print_listing(const uint8_t *text, size_t length) {
     fwrite(out, 1, list.length, stdout);
 }
 
+/* A refused budget has a listing too, as a refused text has. */
+static void print_listing_with_budget(const uint8_t *text, size_t length, uint64_t budget) {
+    uint8_t out[CUDDLELAMB_LISTING] = {0};
+    struct cuddlelamb_text_answer list = cuddlelamb_list_with_budget(text, length, budget, out, sizeof out);
+    printf("listing with budget %" PRIu64 ": %" PRIu64 " bytes\n", budget, list.length);
+    fwrite(out, 1, list.length, stdout);
+}
+
 /* A refusal changes nothing in the lent buffers. */
-static void print_short_buffer(const uint8_t *text, size_t length) {
+static void print_short_buffer(const struct cuddlelamb_table *table) {
     uint64_t order[3] = {7, 8, 9};
     uint64_t fates[CUDDLELAMB_JOBS] = {0};
-    struct cuddlelamb_plan_answer plan = cuddlelamb_plan(text, length, order, 3, fates, CUDDLELAMB_JOBS);
+    struct cuddlelamb_plan_answer plan = cuddlelamb_plan(*table, table->budget, order, 3, fates, CUDDLELAMB_JOBS);
     print_refusal("plan with an order buffer of 3 places", plan.number, plan.line);
     print_places("the buffer", order, 3);
 }
@@ -73,21 +100,94 @@ static void print_costs(uint64_t model) {
     }
 }
 
-int main(int count, char **arguments) {
-    static uint8_t text[MOST_READ];
-    FILE *file = count > 1 ? fopen(arguments[1], "rb") : stdin;
-    if (file == NULL) {
-        perror(arguments[1]);
-        return 2;
+/* Everything about one text; whether neither it nor a budget was refused. */
+static bool print_all(const uint8_t *text, size_t length, const uint64_t *budgets, size_t count) {
+    struct cuddlelamb_table_answer read = cuddlelamb_read(text, length);
+    bool good = read.number == 0;
+    if (good) {
+        good = print_plans(&read.table, budgets, count);
+    } else {
+        print_refusal("read", read.number, read.line);
     }
-    size_t length = fread(text, 1, sizeof text, file);
-    fclose(file);
-    int status = print_plan(text, length);
     print_listing(text, length);
-    print_short_buffer(text, length);
+    if (count > 0) {
+        print_listing_with_budget(text, length, budgets[count - 1]);
+    }
+    print_short_buffer(&read.table);
     print_allocation(100, 100, 900);
     print_allocation(1000000, 1, 500);
     print_costs(3);
     print_costs(4);
-    return status;
+    return good;
+}
+
+/* A number is digits with no leading zero, and at most UINT64_MAX. */
+static bool read_number(const char *word, uint64_t *number) {
+    if (word[0] == '\0' || (word[0] == '0' && word[1] != '\0')) {
+        return false;
+    }
+    *number = 0;
+    for (; *word >= '0' && *word <= '9'; word++) {
+        uint64_t digit = (uint64_t)(*word - '0');
+        if (*number > (UINT64_MAX - digit) / 10) {
+            return false;
+        }
+        *number = *number * 10 + digit;
+    }
+    return *word == '\0';
+}
+
+/* Whether every word is a number. */
+static bool read_numbers(char **words, size_t count, uint64_t *numbers) {
+    for (size_t at = 0; at < count; at++) {
+        if (!read_number(words[at], &numbers[at])) {
+            return false;
+        }
+    }
+    return true;
+}
+
+/* The front of a file or of standard input. Where reading fails, what came before is no table. */
+static bool read_text(const char *name, uint8_t *text, size_t room, size_t *length) {
+    FILE *file = stdin;
+    if (strcmp(name, "-") == 0) {
+        name = "standard input";
+    } else {
+        file = fopen(name, "rb");
+    }
+    if (file == NULL) {
+        perror(name);
+        return false;
+    }
+    *length = fread(text, 1, room, file);
+    bool good = !ferror(file);
+    if (!good) {
+        perror(name);
+    }
+    fclose(file);
+    return good;
+}
+
+int main(int count, char **arguments) {
+    static uint8_t text[MOST_READ];
+    size_t length = 0, budget_count = count > 2 ? (size_t)count - 2 : 0;
+    uint64_t *budgets = malloc((budget_count + 1) * sizeof *budgets);
+    if (budgets == NULL) {
+        perror("plan");
+        return 2;
+    }
+    if (count < 2 || !read_numbers(arguments + 2, budget_count, budgets)) {
+        fprintf(stderr, "usage: plan FILE [BUDGET ..]\n");
+        return 2;
+    }
+    if (!read_text(arguments[1], text, sizeof text, &length)) {
+        return 2;
+    }
+    bool good = print_all(text, length, budgets, budget_count);
+    free(budgets);
+    if (fflush(stdout) != 0 || ferror(stdout)) {
+        fprintf(stderr, "plan: the output cannot be written\n");
+        return 2;
+    }
+    return good ? 0 : 1;
 }

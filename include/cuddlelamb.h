@@ -3,8 +3,9 @@
  * What every call keeps:
  * - It takes any bytes, any numbers and any lengths; there is no input for which its answer is left open.
  * - Its answer begins with `number` and `line`. Both are 0 where nothing is refused. Otherwise they are the refusal's
- *   number, 1 to 10, and the line of the text that it names, counted from 1, or 0 where no line is meant; all other
- *   values of the answer are then 0, and no byte and no place of a lent buffer has changed.
+ *   number, 1 to 10, and the line of the text that it names, counted from 1, or for a table the line that its record would
+ *   have had (1 for the budget beside it), or 0 where no line is meant; all other values of the answer are then 0, and no
+ *   byte and no place of a lent buffer has changed.
  * - It answers the same for the same input. It keeps nothing from one call to the next, does not use the heap, and may be
  *   called from several threads at once, each with buffers of its own.
  *
@@ -13,7 +14,8 @@
  *   where the length is 0: any address will do then, as that of a local variable.
  * - A buffer is at most PTRDIFF_MAX bytes long, all of its places may be read, and those of a buffer that is not const may
  *   be written; it holds something (set it to 0, say) before it is lent. No two buffers of a call overlap.
- * - There are 40,000 bytes of stack left: measured, not proved; the most is what cuddlelamb_list takes.
+ * - There are 37,000 bytes of stack left: measured, not proved. The most, some 36,000, is what the two calls that list take;
+ *   cuddlelamb_plan takes some 29,000, the table that is handed to it counted in.
  *
  * The numbers of a refusal:
  *    1  the line has none of the four shapes: letter, field count, an empty field, a byte that is no digit, a leading
@@ -45,7 +47,7 @@ enum {
     CUDDLELAMB_HOLDS = 32,   /* places for H lines */
     CUDDLELAMB_COSTS = 7,    /* costs of a supplied model */
     CUDDLELAMB_TEXT = 3653,  /* bytes of the longest valid text: room enough for cuddlelamb_write */
-    CUDDLELAMB_LISTING = 1118 /* bytes of the longest listing: room enough for cuddlelamb_list */
+    CUDDLELAMB_LISTING = 1118 /* bytes of the longest listing: room enough for the two calls that list */
 };
 
 /* The fates of a job. */
@@ -83,7 +85,7 @@ struct cuddlelamb_hold {
 /* A table: the T line, the counts of the other lines, and of each letter the first so many places. */
 struct cuddlelamb_table {
     uint64_t clock;  /* 0..1,000,000,000 ms */
-    uint64_t budget; /* 0..10^15 units */
+    uint64_t budget; /* 0..10^15 units; cuddlelamb_plan plans with the one beside the table */
     uint64_t speed_count;
     uint64_t job_count;
     uint64_t hold_count;
@@ -140,26 +142,36 @@ CUDDLELAMB_SIZE(cuddlelamb_cycles_answer, 24);
 CUDDLELAMB_SIZE(cuddlelamb_costs_answer, 72);
 #undef CUDDLELAMB_SIZE
 
-/* Plans a text. The first `count` places of `order` are the planned jobs' numbers in the order in which they run, and all
- * places after them are 0. The places of `fates` are the fates of the jobs in the order of the J lines, and all places
- * after the last job are 0. `speed` is, of the speeds at which every planned job ends by its termination and the energy is
- * within budget, the one with the least energy, and among equals the lowest; where nothing is planned, it is the first speed,
- * and the energy is 0.
- * Refused, before the text is looked at: 8 with line 0, where `order` or `fates` has fewer than 64 places. Then 1 to 7 as
- * cuddlelamb_read refuses the text. */
-struct cuddlelamb_plan_answer cuddlelamb_plan(const uint8_t *text, size_t text_length, uint64_t *order,
+/* Reads a text: the table has the text's records, in their order, and 0 in every unused place.
+ * Refused 1 to 7, with the first bad line; the table is then all 0, which cuddlelamb_plan and cuddlelamb_write refuse. */
+struct cuddlelamb_table_answer cuddlelamb_read(const uint8_t *text, size_t text_length);
+
+/* Plans a table with the budget given beside it, in the place of the table's own. The first `count` places of `order` are
+ * the planned jobs' numbers in the order in which they run, and all places after them are 0. The places of `fates` are the
+ * fates of the jobs in the order of the J lines, and all places after the last job are 0. `speed` is, of the speeds at which
+ * every planned job ends by its termination and the energy is within budget, the one with the least energy, and among equals
+ * the lowest; where nothing is planned, it is the first speed, and the energy is 0.
+ * The table may be any: one that was read, which may so be planned again and again with other budgets, or one put together
+ * by hand. It is not changed, and its unused places may hold anything. The budget may be any number.
+ * Refused in this order: 8 with line 0, where `order` or `fates` has fewer than 64 places. Then 2 with line 1, where the
+ * budget beside the table is above 10^15. Then 2 to 7 as cuddlelamb_write refuses the table's records, the first of which is
+ * the T: the table's own budget is checked too, and after that it is not looked at. */
+struct cuddlelamb_plan_answer cuddlelamb_plan(struct cuddlelamb_table table, uint64_t budget, uint64_t *order,
                                               size_t order_length, uint64_t *fates, size_t fates_length);
 
-/* Plans a text and writes the listing to the front of `out`; the bytes after it stay as they were. The listing is a line
- * "P speed energy count", for each planned job in order a line "O job finish", and for each other job in the order of the
- * J lines a line "X job fate", with one tab between fields and a line feed after each line. A text that is refused has
- * a listing too, the one line "R number line", and the answer's own number is then 0.
+/* Plans a text with its own budget and writes the listing to the front of `out`; the bytes after it stay as they were. The
+ * listing is a line "P speed energy count", for each planned job in order a line "O job finish", and for each other job in
+ * the order of the J lines a line "X job fate", with one tab between fields and a line feed after each line. A text that is
+ * refused has a listing too, the one line "R number line", and the answer's own number is then 0.
  * Refused: 8 with line 0, where the listing is longer than `out`. */
 struct cuddlelamb_text_answer cuddlelamb_list(const uint8_t *text, size_t text_length, uint8_t *out, size_t out_length);
 
-/* Reads a text: the table has the text's records, in their order, and 0 in every unused place.
- * Refused 1 to 7, with the first bad line; the table is then all 0. */
-struct cuddlelamb_table_answer cuddlelamb_read(const uint8_t *text, size_t text_length);
+/* Does as cuddlelamb_list does, but plans the text with the budget given beside it, in the place of its own. A text that is
+ * refused has its line "R number line". Where the text is not refused and the budget beside it is above 10^15, the listing
+ * is the one line "R 2 1", and the answer's own number is 0 here too.
+ * Refused: 8 with line 0, where the listing is longer than `out`. */
+struct cuddlelamb_text_answer cuddlelamb_list_with_budget(const uint8_t *text, size_t text_length, uint64_t budget,
+                                                          uint8_t *out, size_t out_length);
 
 /* Writes a table's text to the front of `out`; the bytes after it stay as they were. What cuddlelamb_read makes of that
  * text is a table with the same records. Unused places may hold anything.

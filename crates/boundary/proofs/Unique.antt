@@ -8,10 +8,11 @@ use denote.Ref.{RefT, now}
 use Rattle.boundary.proofs.cuddlelamb_allocate.Reads as allocate
 use Rattle.boundary.proofs.cuddlelamb_costs.Reads as costs
 use Rattle.boundary.proofs.cuddlelamb_list.Reads as list
+use Rattle.boundary.proofs.cuddlelamb_list_with_budget.Reads as list-with
 use Rattle.boundary.proofs.cuddlelamb_plan.Reads as plan
 use Rattle.boundary.proofs.cuddlelamb_read.Reads as read
 use Rattle.boundary.proofs.cuddlelamb_write.Reads as write
-use Rattle.boundary.specs.Told.{AllocateTold, CostsTold, ListTold, PlanTold, ReadTold, WriteTold, costsSays, cyclesSays, planSays, tableSays, textSays}
+use Rattle.boundary.specs.Told.{AllocateTold, CostsTold, ListTold, ListWithTold, PlanTold, ReadTold, WriteTold, costsSays, cyclesSays, planSays, tableSays, textSays}
 use Rattle.boundary.specs.declared.CostsAnswer.{CostsAnswer}
 use Rattle.boundary.specs.declared.CyclesAnswer.{CyclesAnswer}
 use Rattle.boundary.specs.declared.PlanAnswer.{PlanAnswer}
@@ -21,7 +22,7 @@ use Rattle.laws.proofs.Unique.{known-by}
 use Rattle.rules.specs.Answers.{Answer}
 use Rattle.rules.specs.TableText.{nth}
 use Rattle.rules.specs.declared.Table.{Table}
-use Rattle.rules.specs.Refusals.{read}
+use Rattle.rules.specs.Plan.{takenWith}
 
 -- an answer is known by what it says
 plan-known : (r s : PlanAnswer) → planSays r ≡ planSays s → r ≡ s
@@ -33,7 +34,7 @@ plan-known = known-by planSays (λ a. record {
   energy = nth (a .values) 2;
 }) (λ r. refl)
 
-text-known : (r s : TextAnswer) → textSays r ≡ textSays s → r ≡ s
+pub text-known : (r s : TextAnswer) → textSays r ≡ textSays s → r ≡ s
 text-known = known-by textSays (λ a. record { number = a .number; line = a .line; length = nth (a .values) 0 }) (λ r. refl)
 
 cycles-known : (r s : CyclesAnswer) → cyclesSays r ≡ cyclesSays s → r ≡ s
@@ -47,9 +48,10 @@ table-known r s e t =
     ap (λ (a : Answer). record { number = a .number; line = a .line; table = r .table }) e
     ∙ ap (λ t. record { number = s .number; line = s .line; table = t }) t
 
-pub plan-unique : (text order fates : List ℕ) (r s : PlanAnswer) (a b a′ b′ : List ℕ) → PlanTold (read text) order fates r a b
-    → PlanTold (read text) order fates s a′ b′ → (r ≡ s) × (a ≡ a′) × (b ≡ b′)
-plan-unique text order fates r s a b a′ b′ p q = (
+pub plan-unique : (table : Table) (budget : ℕ) (order fates : List ℕ) (r s : PlanAnswer) (a b a′ b′ : List ℕ)
+    → PlanTold (takenWith table budget) order fates r a b → PlanTold (takenWith table budget) order fates s a′ b′
+    → (r ≡ s) × (a ≡ a′) × (b ≡ b′)
+plan-unique table budget order fates r s a b a′ b′ p q = (
   plan-known r s (p .answer ∙ sym (q .answer)),
   p .order-left ∙ sym (q .order-left),
   p .fates-left ∙ sym (q .fates-left),
@@ -58,6 +60,10 @@ plan-unique text order fates r s a b a′ b′ p q = (
 pub list-unique : (text out : List ℕ) (r s : TextAnswer) (a b : List ℕ) → ListTold text out r a → ListTold text out s b
     → (r ≡ s) × (a ≡ b)
 list-unique text out r s a b p q = (text-known r s (p .answer ∙ sym (q .answer)), p .out-left ∙ sym (q .out-left))
+
+pub list-with-unique : (text : List ℕ) (budget : ℕ) (out : List ℕ) (r s : TextAnswer) (a b : List ℕ)
+    → ListWithTold text budget out r a → ListWithTold text budget out s b → (r ≡ s) × (a ≡ b)
+list-with-unique text budget out r s a b p q = (text-known r s (p .answer ∙ sym (q .answer)), p .out-left ∙ sym (q .out-left))
 
 pub read-unique : (text : List ℕ) (r s : TableAnswer) → ReadTold text r → ReadTold text s → r ≡ s
 read-unique text r s p q = table-known r s (p .answer ∙ sym (q .answer)) (p .table ∙ sym (q .table))
@@ -74,14 +80,19 @@ pub costs-unique : (model : ℕ) (r s : CostsAnswer) → CostsTold model r → C
 costs-unique model r s p q = costs-known r s (p .answer ∙ sym (q .answer))
 
 -- The contract of each call is its record.
-pub plan-says : (l : Lfts 3) (text order fates order′ fates′ : RefT (List ℕ)) (r : PlanAnswer)
-    → plan.Learnt l (text, (order, (fates, tt))) r (text, (order′, (fates′, tt)))
-    ≡ PlanTold (read (now text)) (now order) (now fates) r (now order′) (now fates′)
-plan-says l text order fates order′ fates′ r = refl
+pub plan-says : (l : Lfts 2) (table : Table) (budget : ℕ) (order fates order′ fates′ : RefT (List ℕ)) (r : PlanAnswer)
+    → plan.Learnt l (table, (budget, (order, (fates, tt)))) r (table, (budget, (order′, (fates′, tt))))
+    ≡ PlanTold (takenWith table budget) (now order) (now fates) r (now order′) (now fates′)
+plan-says l table budget order fates order′ fates′ r = refl
 
 pub list-says : (l : Lfts 2) (text out out′ : RefT (List ℕ)) (r : TextAnswer)
     → list.Learnt l (text, (out, tt)) r (text, (out′, tt)) ≡ ListTold (now text) (now out) r (now out′)
 list-says l text out out′ r = refl
+
+pub list-with-says : (l : Lfts 2) (text : RefT (List ℕ)) (budget : ℕ) (out out′ : RefT (List ℕ)) (r : TextAnswer)
+    → list-with.Learnt l (text, (budget, (out, tt))) r (text, (budget, (out′, tt)))
+    ≡ ListWithTold (now text) budget (now out) r (now out′)
+list-with-says l text budget out out′ r = refl
 
 pub read-says : (l : Lfts 1) (text : RefT (List ℕ)) (r : TableAnswer)
     → read.Learnt l (text, tt) r (text, tt) ≡ ReadTold (now text) r

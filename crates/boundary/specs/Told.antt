@@ -10,7 +10,7 @@ use Rattle.boundary.specs.declared.TextAnswer.{TextAnswer}
 use Rattle.rules.specs.Answers.{Answer}
 use Rattle.rules.specs.Costs.{suppliedCosts}
 use Rattle.rules.specs.Cycles.{allocation}
-use Rattle.rules.specs.Listing.{listing}
+use Rattle.rules.specs.Listing.{listing, listingWith}
 use Rattle.rules.specs.Plan.{planningOf}
 use Rattle.rules.specs.Refusals.{reading, writing, Taken}
 use Rattle.rules.specs.declared.Table.{Table}
@@ -41,6 +41,11 @@ pub record PlanTold (k : Taken) (order fates : List ℕ) (r : PlanAnswer) (order
 pub record ListTold (text out : List ℕ) (r : TextAnswer) (out′ : List ℕ) : Type 0 where
   pub answer : textSays r ≡ listing text out .answer
   pub out-left : out′ ≡ listing text out .out
+
+-- "cuddlelamb_list_with_budget"
+pub record ListWithTold (text : List ℕ) (budget : ℕ) (out : List ℕ) (r : TextAnswer) (out′ : List ℕ) : Type 0 where
+  pub answer : textSays r ≡ listingWith text budget out .answer
+  pub out-left : out′ ≡ listingWith text budget out .out
 
 -- "cuddlelamb_read"
 pub record ReadTold (text : List ℕ) (r : TableAnswer) : Type 0 where

@@ -3,6 +3,7 @@
 use costs::supplied;
 use cycles::allocate;
 use listing::list;
+use listing::list_with_budget;
 use planner::plan_into;
 use reader::read;
 use rules::Allocated;
@@ -14,8 +15,8 @@ use rules::number_of;
 use writer::write;
 ghost use mathlib.Core.Path.{_≡_};
 ghost use Rattle.boundary.specs.Numbers.{textAnswer, toldOf};
-ghost use Rattle.boundary.specs.Told.{AllocateTold, CostsTold, ListTold, PlanTold, ReadTold, WriteTold};
-ghost use Rattle.rules.specs.Refusals.{read};
+ghost use Rattle.boundary.specs.Told.{AllocateTold, CostsTold, ListTold, ListWithTold, PlanTold, ReadTold, WriteTold};
+ghost use Rattle.rules.specs.Plan.{takenWith};
 
 // A plan's job count, speed and energy.
 #[repr(C)]
@@ -95,10 +96,15 @@ fn text_answer(written: Written) -> TextAnswer
 }
 
 #[no_mangle]
-pub extern "C" fn cuddlelamb_plan(text: &[u8], order: &mut [u64], fates: &mut [u64]) -> PlanAnswer
-    ensures { λ r. ⌜ PlanTold (read (now (text .entry))) (now (order .entry)) (now (fates .entry)) r (now (order .exit)) (now (fates .exit)) ⌝ }
+pub extern "C" fn cuddlelamb_plan(
+    table: Table,
+    budget: u64,
+    order: &mut [u64],
+    fates: &mut [u64],
+) -> PlanAnswer
+    ensures { λ r. ⌜ PlanTold (takenWith table budget) (now (order .entry)) (now (fates .entry)) r (now (order .exit)) (now (fates .exit)) ⌝ }
 {
-    let decision = plan_into(text, order, fates);
+    let decision = plan_into(table, budget, order, fates);
     match decision {
         Decision::Plan {
             count,
@@ -126,6 +132,18 @@ pub extern "C" fn cuddlelamb_list(text: &[u8], out: &mut [u8]) -> TextAnswer
     ensures { λ r. ⌜ ListTold (now (text .entry)) (now (out .entry)) r (now (out .exit)) ⌝ }
 {
     let written = list(text, out);
+    text_answer(written)
+}
+
+#[no_mangle]
+pub extern "C" fn cuddlelamb_list_with_budget(
+    text: &[u8],
+    budget: u64,
+    out: &mut [u8],
+) -> TextAnswer
+    ensures { λ r. ⌜ ListWithTold (now (text .entry)) budget (now (out .entry)) r (now (out .exit)) ⌝ }
+{
+    let written = list_with_budget(text, budget, out);
     text_answer(written)
 }
 

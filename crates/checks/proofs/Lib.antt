@@ -1,6 +1,5 @@
 pub mod Places
-mod Parts
-mod Letters
-mod Whole
+mod Left
+mod SoFar
 pub mod Exactly
 mod Unique

@@ -7,128 +7,122 @@ use rules::MOST_SPEEDS;
 use rules::Refusal;
 use rules::Table;
 use rules::Verdict;
+use text::Parsed;
+ghost use mathlib.Core.Bool.{cond};
 ghost use mathlib.Core.List.{[]};
 ghost use mathlib.Core.Path.{_≡_};
-ghost use Prim.Native.Nat.{_≤_};
-ghost use Rattle.records.specs.Standing.{standingOf};
 ghost use Rattle.rules.specs.Answers.{verdictSays};
-ghost use Rattle.rules.specs.Refusals.{check};
-ghost use Rattle.rules.specs.TableText.{mostHolds, mostJobs, mostSpeeds};
-ghost use Rattle.checks.specs.Passing.{JobsStand, clockStands, holdsPassed, jobsPassed, lineAfter, passedOf, passedSays, speedsPassed, speedsStand};
+ghost use Prim.Native.Nat.{_≤_};
+ghost use Rattle.lines.specs.Step.{Noted, faultIn};
+ghost use Rattle.records.specs.Faults.{faultSays};
+ghost use Rattle.rules.specs.Refusals.{Before, check};
+ghost use Rattle.rules.specs.TableText.{mostJobs};
+ghost use Rattle.text.specs.Lines.{itemOf};
+ghost use Rattle.checks.specs.Left.{Few, NextIs};
+ghost use Rattle.checks.specs.declared.Next.{Next};
 ghost use Rattle.checks.specs.Verdict.{checkSays};
 
-// What the lines of a letter come to: the state behind them, or the refusal of the first bad one and its line.
-enum Passed {
-    Through(Standing),
-    Stopped(Refusal, u64),
+// What comes next of a table: a record, by its letter and its place; a refusal, where there is no F, or of the first record
+// beyond the places; or nothing.
+enum Next {
+    Clock,
+    Speed(usize),
+    Job(usize),
+    Hold(usize),
+    Bad(Refusal),
+    End,
 }
 
-// The line that comes behind the T and so many of each other letter.
-fn next_line(before: Standing) -> u64
-    requires { ⌜ (before .speeds ≤ mostSpeeds) × (before .jobs ≤ mostJobs) × (before .holds ≤ mostHolds) ⌝ }
-    ensures { λ r. ⌜ r ≡ lineAfter before ⌝ }
+// A record that has a place, or else the refusal of the first beyond the places.
+fn placed(next: Next, has_place: bool, beyond: Refusal) -> Next
+    ensures { λ r. ⌜ r ≡ cond «has_place» next (Next.Bad beyond) ⌝ }
 {
-    (2 + before.speeds + before.jobs + before.holds) as u64
-}
-
-// The F lines, behind the T: refusals 2 to 4.
-fn check_speeds(table: Table, before: Standing) -> Passed
-    requires { ⌜ before ≡ standingOf (clockStands table) ⌝ }
-    ensures { λ r. ⌜ r ≡ passedOf (speedsPassed table) ⌝ }
-{
-    if table.speed_count == 0 {
-        return Passed::Stopped(Refusal::Order, 2);
+    if has_place {
+        return next;
     }
-    let mut state = before;
-    let mut i = 0;
-    while i < table.speed_count {
-        if i == MOST_SPEEDS {
-            return Passed::Stopped(Refusal::TooMany, next_line(state));
-        }
-        let speed = table.speeds[i];
-        let judgement = records::judge_speed(state, speed);
-        if let Judgement::Bad(why) = judgement {
-            return Passed::Stopped(why, next_line(state));
-        }
-        state = records::after_speed(state, speed);
-        i += 1;
-    }
-    Passed::Through(state)
+    Next::Bad(beyond)
 }
 
-// The J lines, behind the F: refusals 2 to 5.
-fn check_jobs(table: Table, before: Standing) -> Passed
-    requires { ⌜ before ≡ standingOf (speedsStand table) ⌝ }
-    ensures { λ r. ⌜ r ≡ passedOf (jobsPassed table) ⌝ }
+// What comes behind the records that a state stands for, in a table of so many F, J and H. No count is added to another, so
+// that they may be any.
+fn next_of(before: Standing, speed_count: usize, job_count: usize, hold_count: usize) -> Next
+    requires { ⌜ Few before ⌝ }
+    ensures { λ r. ⌜ NextIs before «speed_count» «job_count» «hold_count» r ⌝ }
 {
-    let mut state = before;
-    let mut i = 0;
-    while i < table.job_count {
-        if i == MOST_JOBS {
-            return Passed::Stopped(Refusal::TooMany, next_line(state));
-        }
-        let job = table.jobs[i];
-        let judgement = records::judge_job(state, job);
-        if let Judgement::Bad(why) = judgement {
-            return Passed::Stopped(why, next_line(state));
-        }
-        state = records::after_job(state, job);
-        i += 1;
+    if !before.begun {
+        return Next::Clock;
     }
-    Passed::Through(state)
+    if speed_count == 0 {
+        return Next::Bad(Refusal::Order);
+    }
+    let speeds = before.speeds;
+    if speeds < speed_count {
+        return placed(Next::Speed(speeds), speeds < MOST_SPEEDS, Refusal::TooMany);
+    }
+    let jobs = before.jobs;
+    if jobs < job_count {
+        return placed(Next::Job(jobs), jobs < MOST_JOBS, Refusal::TooMany);
+    }
+    let holds = before.holds;
+    if holds < hold_count {
+        return placed(Next::Hold(holds), holds < MOST_HOLDS, Refusal::Order);
+    }
+    Next::End
 }
 
-// The H lines, behind the J: refusals 2, 3, 6 and 7.
-fn check_holds(table: Table, before: Standing) -> Passed
-    requires { ⌜ JobsStand table before ⌝ }
-    ensures { λ r. ⌜ r ≡ passedOf (holdsPassed table) ⌝ }
+// The lowest refusal of a record, 2 to 7, behind the records that the state stands for; the columns hold the numbers and
+// requests of their jobs. It is `lines::judge_line`, said twice: called from two loops it would stay a call, and copy each record.
+// (A table has no line without a shape, so that the last arm is never reached.)
+fn judge_record<'a>(
+    before: Standing,
+    parsed: Parsed,
+    numbers: &'a [u64; MOST_JOBS],
+    requests: &'a [u64; MOST_JOBS],
+) -> Judgement
+    requires { ⌜ before .jobs ≤ mostJobs ⌝ }
+    ensures { λ r. ⌜ ((b : Before) → Noted b before (now (numbers .entry)) (now (requests .entry)) → faultSays r ≡ faultIn b (itemOf parsed)) ⌝ }
 {
-    let columns = columns::columns_of(table);
-    let numbers = columns.number;
-    let requests = columns.request;
-    let mut state = before;
-    let mut i = 0;
-    while i < table.hold_count {
-        if i == MOST_HOLDS {
-            return Passed::Stopped(Refusal::Order, next_line(state));
+    match parsed {
+        Parsed::Clock(clock, budget) => records::judge_clock(before, clock, budget),
+        Parsed::Speed(speed) => records::judge_speed(before, speed),
+        Parsed::Job(job) => records::judge_job(before, job),
+        Parsed::Hold(hold) => {
+            let holder = records::holder_of(numbers, requests, before.jobs, hold.holder);
+            records::judge_hold(before, hold, holder)
         }
-        let hold = table.holds[i];
-        let holder = records::holder_of(&numbers, &requests, before.jobs, hold.holder);
-        let judgement = records::judge_hold(state, hold, holder);
-        if let Judgement::Bad(why) = judgement {
-            return Passed::Stopped(why, next_line(state));
-        }
-        state = records::after_hold(state, hold);
-        i += 1;
-    }
-    Passed::Through(state)
-}
-
-fn verdict_of(passed: Passed) -> Verdict
-    ensures { λ r. ⌜ verdictSays r [] ≡ passedSays passed ⌝ }
-{
-    match passed {
-        Passed::Through(_) => Verdict::Done,
-        Passed::Stopped(why, line) => Verdict::Refused(why, line),
+        Parsed::Refused(why, _) => Judgement::Bad(why),
     }
 }
 
-// Whether a table's records are valid and within its places, or else the first refusal, 2 to 7, and its line.
+// Whether a table's records are valid and within its places, or else the first refusal, 2 to 7, and its line. A table given
+// to a function is copied, so that the loop itself reads the records.
 pub fn check_table(table: Table) -> Verdict
     ensures { λ r. ⌜ verdictSays r [] ≡ checkSays (check table) ⌝ }
 {
-    let start = records::none_standing();
-    let judgement = records::judge_clock(start, table.clock, table.budget);
-    if let Judgement::Bad(why) = judgement {
-        return Verdict::Refused(why, 1);
+    let mut numbers = [0u64; MOST_JOBS];
+    let mut requests = [0u64; MOST_JOBS];
+    let mut before = records::none_standing();
+    let mut line: u64 = 1;
+    loop {
+        let next = next_of(before, table.speed_count, table.job_count, table.hold_count);
+        let parsed = match next {
+            Next::Clock => Parsed::Clock(table.clock, table.budget),
+            Next::Speed(n) => Parsed::Speed(table.speeds[n]),
+            Next::Job(n) => Parsed::Job(table.jobs[n]),
+            Next::Hold(n) => Parsed::Hold(table.holds[n]),
+            Next::Bad(why) => return Verdict::Refused(why, line),
+            Next::End => return Verdict::Done,
+        };
+        let judgement = judge_record(before, parsed, &numbers, &requests);
+        if let Judgement::Bad(why) = judgement {
+            return Verdict::Refused(why, line);
+        }
+        let n = before.jobs;
+        before = lines::standing_after(before, parsed);
+        line += 1;
+        if let Parsed::Job(job) = parsed {
+            numbers[n] = job.number;
+            requests[n] = job.request;
+        }
     }
-    let speeds = check_speeds(table, records::after_clock(start));
-    let Passed::Through(before_jobs) = speeds else {
-        return verdict_of(speeds);
-    };
-    let jobs = check_jobs(table, before_jobs);
-    let Passed::Through(before_holds) = jobs else {
-        return verdict_of(jobs);
-    };
-    verdict_of(check_holds(table, before_holds))
 }

@@ -1,50 +1,104 @@
 -- What was read is a front part of its buffer. Where a buffer has room for the longest listing, no listing is refused, and
--- the front of the buffer is the whole of it. Assumes nothing.
+-- the front of the buffer is the whole of it. A word of the command line is a budget where it is a number. Assumes nothing.
+use mathlib.Core.Bool.{false}
 use mathlib.Core.List.{List, [], _∷_, _++_}
-use mathlib.Core.Path.{_≡_, sym, ap, _∙_}
+use mathlib.Core.Option.{Option, none, some}
+use mathlib.Core.Path.{_≡_, refl, sym, ap, _∙_}
 use Prim.Native.Nat.{ℕ, _≤_}
 use native.Mathlib.Omega.{arith}
 use borrow.Author.Tests.{le-leb}
+use lib.Dec.{eqb}
 use lib.ListN.{drop, length, length-append}
 use lib.Seq.{take-at}
-use Rattle.cuddlelamb.specs.Program.{FrontOf, ListedAs}
+use Rattle.cuddlelamb.specs.Program.{BudgetIn, FrontOf, ListedAs, asks}
+use Rattle.cuddlelamb.specs.declared.Asked.{Asked}
 use Rattle.cuddlelamb.specs.declared.Input.{Input}
 use Rattle.io.proofs.Counting.{counts}
 use Rattle.io.specs.Counts.{Counts}
 use Rattle.laws.proofs.Unique.{refusal-not-0}
-use Rattle.listing.proofs.LongestListing.{longest-listing, mostListed}
+use Rattle.listing.proofs.LongestListing.{longest-listing, longest-with-budget, mostListed}
 use Rattle.listing.specs.Listed.{wrote}
-use Rattle.rules.specs.Answers.{good}
-use Rattle.rules.specs.Listing.{listing, listingOf}
+use Rattle.rules.specs.Answers.{Answer, fieldSays, good, refused}
+use Rattle.rules.specs.Listing.{listedWith, listing, listingOf, listingWith}
+use Rattle.rules.specs.Lists.{any}
 use Rattle.rules.specs.Refusals.{AfterWriting, written}
-use Rattle.rules.specs.TableText.{nth}
+use Rattle.rules.specs.TableText.{isDigit, nth, numberIn}
+use Rattle.rules.specs.declared.Field.{Field}
 use Rattle.rules.specs.declared.Refusal.{Refusal}
+use Rattle.text.proofs.FieldPlaces.{field-answered}
+use Rattle.text.specs.FieldPlaces.{fieldAnswer}
+use Rattle.text.specs.Fields.{FieldsTold, numberAt, takenSays}
+use Rattle.text.specs.declared.FieldTaken.{FieldTaken}
 use Rattle.rules.specs.declared.Written.{Written}
 
 pub bytes-counted : (buffer : List ℕ) (input : Input) (count : ℕ) → input ≡ Input.Bytes count → FrontOf buffer input
     → Counts count buffer
 bytes-counted buffer input count bytes-told front = rw bytes-told at front
 
-module _ (text out : List ℕ) (room : mostListed ≤ length out) where
-  always-written : listing text out
-      ≡ record { answer = good (length (listingOf text) ∷ []); out = listingOf text ++ drop (length (listingOf text)) out }
-  unfolding listing written
-  always-written = rw (le-leb (length (listingOf text)) (length out) (omega (arith, longest-listing text)))
+module _ (lines out : List ℕ) (room : length lines ≤ length out) where
+  always-written : written lines out ≡ record { answer = good (length lines ∷ []); out = lines ++ drop (length lines) out }
+  unfolding written
+  always-written = rw (le-leb (length lines) (length out) room)
 
   pub listed-whole : (answer : Written) (after : List ℕ) (count : ℕ) → answer ≡ Written.Length count
-      → wrote answer after ≡ listing text out → ListedAs text after count
+      → wrote answer after ≡ written lines out → ListedAs lines after count
   listed-whole answer after count length-told e =
       let told = rw length-told at (e ∙ always-written) in
       let long = ap (λ (a : AfterWriting). nth (a .answer .values) 0) told in
       let holds = ap (λ (a : AfterWriting). a .out) told in
-      let behind = drop (length (listingOf text)) out in
+      let behind = drop (length lines) out in
       record {
-        counts = counts count after (rw holds (omega (arith, long, length-append (listingOf text) behind)));
-        whole = rw holds (take-at (listingOf text) behind count (sym long));
+        counts = counts count after (rw holds (omega (arith, long, length-append lines behind)));
+        whole = rw holds (take-at lines behind count (sym long));
       }
 
   pub never-refused : (answer : Written) (after : List ℕ) (why : Refusal) (line : ℕ) → answer ≡ Written.Refused why line
-      → wrote answer after ≡ listing text out → ⊥
+      → wrote answer after ≡ written lines out → ⊥
   never-refused answer after why line refusal-told e =
       let told = rw refusal-told at (e ∙ always-written) in
       refusal-not-0 why (ap (λ (a : AfterWriting). a .answer .number) told)
+
+-- the room that is enough for every listing, with the text's own budget or with one beside it
+pub listing-fits : (text out : List ℕ) → mostListed ≤ length out → length (listingOf text) ≤ length out
+listing-fits text out room = omega (arith, longest-listing text)
+
+pub listing-with-fits : (text : List ℕ) (budget : ℕ) (out : List ℕ) → mostListed ≤ length out
+    → length (listedWith text budget) ≤ length out
+listing-with-fits text budget out room = omega (arith, longest-with-budget text budget)
+
+pub listing-written : (text out : List ℕ) → listing text out ≡ written (listingOf text) out
+unfolding listing
+listing-written text out = refl
+
+pub listing-with-written : (text : List ℕ) (budget : ℕ) (out : List ℕ)
+    → listingWith text budget out ≡ written (listedWith text budget) out
+unfolding listingWith
+listing-with-written text budget out = refl
+
+pub nothing-listed : (buffer : List ℕ) → ListedAs [] buffer 0
+nothing-listed buffer = record { counts = counts 0 buffer (omega arith); whole = refl }
+
+-- A word that is a number, and one that is none.
+module _ (buffer : List ℕ) (taken : FieldTaken)
+    (told : takenSays taken ≡ numberAt buffer (record { at = 0; line = 1 }) 0) where
+  word-answered : (word rest : List ℕ) → buffer ≡ word ++ 0 ∷ rest → any (λ b. eqb b 0) word ≡ false
+      → fieldSays (taken .field) ≡ fieldAnswer 1 (numberIn word)
+  unfolding isDigit
+  word-answered word rest e without =
+      ap (λ (t : FieldsTold). t .says) told
+      ∙ field-answered buffer (record { at = 0; line = 1 }) word rest 0 e refl without
+
+  pub a-budget : (n : ℕ) → taken .field ≡ Field.Number n → BudgetIn buffer (Asked.Beside n)
+  a-budget n e = record { of-word = λ word rest q w. from (numberIn word) (sym (ap fieldSays e) ∙ word-answered word rest q w) }
+    where
+      from : (o : Option ℕ) → good (n ∷ []) ≡ fieldAnswer 1 o → Asked.Beside n ≡ asks o
+      from (some m) q = ap (λ (a : Answer). Asked.Beside (nth (a .values) 0)) q
+      from none q = absurd (refusal-not-0 Refusal.Shape (sym (ap (λ (a : Answer). a .number) q)))
+
+  pub no-budget : (why : Refusal) (line : ℕ) → taken .field ≡ Field.Refused why line → BudgetIn buffer Asked.Unknown
+  no-budget why line e =
+      record { of-word = λ word rest q w. from (numberIn word) (sym (ap fieldSays e) ∙ word-answered word rest q w) }
+    where
+      from : (o : Option ℕ) → refused why line [] ≡ fieldAnswer 1 o → Asked.Unknown ≡ asks o
+      from (some m) q = absurd (refusal-not-0 why (ap (λ (a : Answer). a .number) q))
+      from none q = refl

@@ -1,18 +1,39 @@
 -- What the program's functions promise. Of the bytes that a call of the C library reads or writes no promise can speak.
-use mathlib.Core.List.{List}
+use mathlib.Core.Bool.{false}
+use mathlib.Core.List.{List, [], _∷_, _++_}
+use mathlib.Core.Option.{Option, none, some}
 use mathlib.Core.Path.{_≡_}
 use Prim.Native.Nat.{ℕ}
+use lib.Dec.{eqb}
 use lib.ListN.{take}
 use Rattle.cuddlelamb.specs.declared.Input.{Input}
 use Rattle.io.specs.Counts.{Counts}
-use Rattle.rules.specs.Listing.{listingOf}
+use Rattle.cuddlelamb.specs.declared.Asked.{Asked}
+use Rattle.rules.specs.Listing.{listedWith, listingOf}
+use Rattle.rules.specs.Lists.{any}
+use Rattle.rules.specs.TableText.{numberIn}
 
 -- What was read is a front part of the buffer.
 abbrev pub FrontOf : List ℕ → Input → Type 0
 FrontOf buffer (Input.Bytes count) = Counts count buffer
 FrontOf buffer Input.Failed = Unit {0}
 
--- The whole listing of the text, and nothing else, is the front of the buffer: it is never refused for want of room.
-pub record ListedAs (text buffer : List ℕ) (count : ℕ) : Type 0 where
+-- The whole listing, and nothing else, is the front of the buffer: it is never refused for want of room.
+pub record ListedAs (lines buffer : List ℕ) (count : ℕ) : Type 0 where
   pub counts : Counts count buffer
-  pub whole : take count buffer ≡ listingOf text
+  pub whole : take count buffer ≡ lines
+
+-- What a word asks for: the budget that it is, "a number" as document 01 has them.
+abbrev pub asks : Option ℕ → Asked
+asks none = Asked.Unknown
+asks (some budget) = Asked.Beside budget
+
+-- The listing of a text with the budget that is asked for. Where none can be understood nothing is listed.
+abbrev pub linesAsked : List ℕ → Asked → List ℕ
+linesAsked text Asked.Own = listingOf text
+linesAsked text (Asked.Beside budget) = listedWith text budget
+linesAsked text Asked.Unknown = []
+
+-- Where the buffer begins with a word, and the byte 0 behind it, which is not in it.
+pub record BudgetIn (buffer : List ℕ) (r : Asked) : Type 0 where
+  pub of-word : (word rest : List ℕ) → buffer ≡ word ++ 0 ∷ rest → any (λ b. eqb b 0) word ≡ false → r ≡ asks (numberIn word)

@@ -3,16 +3,17 @@
 -- 01 tells it, by number, line and values (rules/specs/Answers, boundary/specs/Told); two answers that say the same are the same
 -- (laws/proofs/Unique). The words of the statements are in specs/; `Promised` is a call's contract as a caller learns it, and where
 -- a line names a promise's record, that the contract is that record is said in the crate's proofs/Unique. The reasons are in
--- Refused, Planned, Trips and Unplanned. Assumes nothing.
+-- Refused, Planned, Trips, ReadOnce and Unplanned. Assumes nothing.
 use mathlib.Core.Bool.{Bool, true}
 use mathlib.Core.List.{List, [], _∷_}
+use mathlib.Core.Logic.{_⊎_}
 use mathlib.Core.Option.{some}
 use mathlib.Core.Path.{_≡_}
 use Prim.Native.Nat.{ℕ, suc, _≤_, _<_}
 use contract.Lifetimes.{Lfts}
 use denote.Ref.{RefT, now, ptr}
 use lib.ListN.{length, take}
-use Rattle.boundary.proofs.Unique.{allocate-unique, costs-unique, list-unique, plan-unique, read-unique, write-unique}
+use Rattle.boundary.proofs.Unique.{allocate-unique, costs-unique, list-unique, list-with-unique, plan-unique, read-unique, write-unique}
 use Rattle.boundary.specs.Told as boundary
 use Rattle.boundary.specs.declared.CostsAnswer.{CostsAnswer}
 use Rattle.boundary.specs.declared.CyclesAnswer.{CyclesAnswer}
@@ -21,16 +22,21 @@ use Rattle.boundary.specs.declared.TableAnswer.{TableAnswer}
 use Rattle.boundary.specs.declared.TextAnswer.{TextAnswer}
 use Rattle.costs.proofs.Unique as costs
 use Rattle.cycles.proofs.Unique as cycles
-use Rattle.demands.proofs.Planned.{clock-and-budget-gives, list-gives, plan-gives, plan-into-gives, read-gives, write-gives}
-use Rattle.demands.proofs.Planned.{cuddlelamb-list-gives, cuddlelamb-plan-gives, cuddlelamb-read-gives, cuddlelamb-write-gives}
-use Rattle.demands.proofs.Refused.{allocate-refuses, clock-and-budget-refuses, empty-text-refused, list-refuses, plan-into-refuses, plan-refuses, read-refuses, supplied-refuses, write-refuses}
-use Rattle.demands.proofs.Refused.{cuddlelamb-allocate-refuses, cuddlelamb-costs-refuses, cuddlelamb-list-refuses, cuddlelamb-plan-refuses, cuddlelamb-read-refuses, cuddlelamb-write-refuses}
+use Rattle.demands.proofs.Planned.{clock-and-budget-gives, list-gives, list-with-gives, plan-gives, plan-into-gives, read-gives, write-gives}
+use Rattle.demands.proofs.Planned.{cuddlelamb-list-gives, cuddlelamb-list-with-gives, cuddlelamb-plan-gives, cuddlelamb-read-gives, cuddlelamb-write-gives}
+use Rattle.demands.proofs.Refused.{allocate-refuses, clock-and-budget-refuses, empty-text-refused, list-refuses, list-with-refuses, plan-into-refuses, plan-refuses, read-refuses, supplied-refuses, write-refuses}
+use Rattle.demands.proofs.Refused.{cuddlelamb-allocate-refuses, cuddlelamb-costs-refuses, cuddlelamb-list-refuses, cuddlelamb-list-with-refuses, cuddlelamb-plan-refuses, cuddlelamb-read-refuses, cuddlelamb-write-refuses}
 use Rattle.demands.proofs.Trips.{table-again, text-again}
-use Rattle.demands.proofs.Unplanned.{unplanned-do-not-matter-to-cuddlelamb-list, unplanned-do-not-matter-to-cuddlelamb-plan, unplanned-do-not-matter-to-list, unplanned-do-not-matter-to-plan, unplanned-do-not-matter-to-plan-into}
+use Rattle.demands.proofs.ReadOnce.{cuddlelamb-list-at-own-budget, cuddlelamb-list-refused-at-any-budget, cuddlelamb-plan-as-the-one, cuddlelamb-refused-as-the-one}
+use Rattle.demands.proofs.ReadOnce.{list-at-own-budget, list-refused-at-any-budget, list-with-as-its-own, one-said-room, part-as-its-own}
+use Rattle.demands.proofs.ReadOnce.{plan-as-the-one, plan-into-as-the-one, refused-as-the-one, refused-not-as-the-one, same-as-its-own, told-as-its-own}
+use Rattle.demands.proofs.Unplanned.{unplanned-do-not-matter-to-cuddlelamb-list, unplanned-do-not-matter-to-cuddlelamb-list-with, unplanned-do-not-matter-to-cuddlelamb-plan}
+use Rattle.demands.proofs.Unplanned.{unplanned-do-not-matter-to-list, unplanned-do-not-matter-to-list-with, unplanned-do-not-matter-to-plan, unplanned-do-not-matter-to-plan-into}
 use Rattle.demands.specs.Plans.{AtFront, HasRoom, PartBy, PlannedBy}
+use Rattle.demands.specs.ReadOnce.{AsTheOne, LeavesAsTheOne, NotPlanned, OneSaidRoom, OtherThanTheOne}
 use Rattle.demands.specs.Refused.{AllocationRefused, CostsRefused, FirstLineRefused, IsRefusal, ListRefused, NothingLent, PlanRefused, ReadRefused, Refuses, WriteRefused}
 use Rattle.demands.specs.Trips.{SameTable, SameText}
-use Rattle.demands.specs.Unplanned.{NoneInFront, SameListing, SameOutside, SamePart, TextsAgree, frontOf}
+use Rattle.demands.specs.Unplanned.{BothAgree, NoneInFront, SameListing, SameOutside, SamePart, frontOf}
 use Rattle.front.proofs.FieldsHeld.{moved-behind-the-letter, moved-refused, moved-to-the-next-field, next-answers-the-field, next-answers-the-letter, next-refused}
 use Rattle.front.proofs.FieldsHeld.{next-refuses-another-kind, next-refuses-without-a-line-feed, take-answers-the-field, take-answers-the-letter, take-refused}
 use Rattle.front.proofs.LinesCounted.{take-counted, walked-lines-counted}
@@ -50,13 +56,14 @@ use Rattle.planner.proofs.Unique as planner
 use Rattle.planner.specs.Promises.{PlannedAs, Together}
 use Rattle.planner.specs.declared.Planned.{Planned}
 use Rattle.reader.proofs.Unique as reader
-use Rattle.rules.specs.Answers.{allocatedSays, decisionSays, fieldSays, good, readingSays, refused, suppliedSays, writtenSays}
+use Rattle.rules.specs.Answers.{allocatedSays, decisionSays, fieldSays, good, numberOf, readingSays, refused, suppliedSays, writtenSays}
 use Rattle.rules.specs.Costs.{suppliedCosts}
 use Rattle.rules.specs.Cycles.{allocation}
-use Rattle.rules.specs.Listing.{listingOf}
+use Rattle.rules.specs.Listing.{listedWith, listingOf}
 use Rattle.rules.specs.Lists.{Each}
-use Rattle.rules.specs.Refusals.{read, taken}
-use Rattle.rules.specs.TableText.{Records, isNumber, linesOf, noRecords, numberIn, recordsOf, tableOf, textOf}
+use Rattle.rules.specs.Plan.{takenWith}
+use Rattle.rules.specs.Refusals.{check, read, refusedAt, taken}
+use Rattle.rules.specs.TableText.{Records, isBudget, isNumber, linesOf, mostJobs, noRecords, numberIn, recordsOf, tableOf, tableWithBudget, textOf, withBudget}
 use Rattle.rules.specs.Valid.{Valid, WithinPlaces}
 use Rattle.rules.specs.declared.Allocated.{Allocated}
 use Rattle.rules.specs.declared.Decision.{Decision}
@@ -78,15 +85,15 @@ use Rattle.writer.proofs.Unique as writer
 -- answers, there and nowhere else; the values that it then hands back; and what the lent buffers, or the table handed back, then
 -- hold.
 
-pub refused-by-plan-into : (l : Lfts 3) (text order fates order′ fates′ : RefT (List ℕ)) (d : Decision)
-    → planner.Promised l text order fates d order′ fates′
-    → Refuses (PlanRefused (read (text .now)) (order .now) (fates .now)) (decisionSays d) (0 ∷ 0 ∷ 0 ∷ [])
+pub refused-by-plan-into : (l : Lfts 2) (table : Table) (budget : ℕ) (order fates order′ fates′ : RefT (List ℕ)) (d : Decision)
+    → planner.Promised l table budget order fates d order′ fates′
+    → Refuses (PlanRefused table budget (order .now) (fates .now)) (decisionSays d) (0 ∷ 0 ∷ 0 ∷ [])
     ((order′ .now ≡ order .now) × (fates′ .now ≡ fates .now))
 refused-by-plan-into = plan-into-refuses
 
-pub refused-by-plan : (text order fates : List ℕ) (begin : ℕ × ℕ) (r : Planned) (fates′ : List ℕ)
-    → PlannedAs (read text) order fates begin r fates′
-    → Refuses (PlanRefused (read text) order fates) (decisionSays (r .decision)) (0 ∷ 0 ∷ 0 ∷ [])
+pub refused-by-plan : (table : Table) (budget : ℕ) (order fates : List ℕ) (begin : ℕ × ℕ) (r : Planned) (fates′ : List ℕ)
+    → PlannedAs (takenWith table budget) order fates begin r fates′
+    → Refuses (PlanRefused table budget order fates) (decisionSays (r .decision)) (0 ∷ 0 ∷ 0 ∷ [])
     ((now (r .plan) ≡ []) × (fates′ ≡ fates))
 refused-by-plan = plan-refuses
 
@@ -95,8 +102,13 @@ pub refused-by-hand-back : (order : List ℕ) (begin : ℕ × ℕ) (why : Refusa
 refused-by-hand-back = refused-hands-back-nothing
 
 pub refused-by-list : (l : Lfts 2) (text out after : RefT (List ℕ)) (w : Written) → listing.Promised l text out w after
-    → Refuses (ListRefused (text .now) (out .now)) (writtenSays w) (0 ∷ []) (after .now ≡ out .now)
+    → Refuses (ListRefused (listingOf (text .now)) (out .now)) (writtenSays w) (0 ∷ []) (after .now ≡ out .now)
 refused-by-list = list-refuses
+
+pub refused-by-list-with-budget : (l : Lfts 2) (text : RefT (List ℕ)) (budget : ℕ) (out after : RefT (List ℕ)) (w : Written)
+    → listing.PromisedWith l text budget out w after
+    → Refuses (ListRefused (listedWith (text .now) budget) (out .now)) (writtenSays w) (0 ∷ []) (after .now ≡ out .now)
+refused-by-list-with-budget = list-with-refuses
 
 pub refused-by-write : (l : Lfts 1) (t : Table) (out after : RefT (List ℕ)) (w : Written) → writer.Promised l t out w after
     → Refuses (WriteRefused t (out .now)) (writtenSays w) (0 ∷ []) (after .now ≡ out .now)
@@ -136,16 +148,21 @@ pub refused-by-supplied : (model : ℕ) (r : Supplied) → costs.Promised model 
     → Refuses (CostsRefused model) (suppliedSays r) (0 ∷ 0 ∷ 0 ∷ 0 ∷ 0 ∷ 0 ∷ 0 ∷ []) NothingLent
 refused-by-supplied = supplied-refuses
 
--- the six calls for C and Rust
+-- the seven calls for C and Rust
 
-pub refused-by-cuddlelamb-plan : (text order fates order′ fates′ : List ℕ) (r : PlanAnswer)
-    → boundary.PlanTold (read text) order fates r order′ fates′
-    → Refuses (PlanRefused (read text) order fates) (boundary.planSays r) (0 ∷ 0 ∷ 0 ∷ []) ((order′ ≡ order) × (fates′ ≡ fates))
+pub refused-by-cuddlelamb-plan : (table : Table) (budget : ℕ) (order fates order′ fates′ : List ℕ) (r : PlanAnswer)
+    → boundary.PlanTold (takenWith table budget) order fates r order′ fates′
+    → Refuses (PlanRefused table budget order fates) (boundary.planSays r) (0 ∷ 0 ∷ 0 ∷ []) ((order′ ≡ order) × (fates′ ≡ fates))
 refused-by-cuddlelamb-plan = cuddlelamb-plan-refuses
 
 pub refused-by-cuddlelamb-list : (text out after : List ℕ) (r : TextAnswer) → boundary.ListTold text out r after
-    → Refuses (ListRefused text out) (boundary.textSays r) (0 ∷ []) (after ≡ out)
+    → Refuses (ListRefused (listingOf text) out) (boundary.textSays r) (0 ∷ []) (after ≡ out)
 refused-by-cuddlelamb-list = cuddlelamb-list-refuses
+
+pub refused-by-cuddlelamb-list-with-budget : (text : List ℕ) (budget : ℕ) (out after : List ℕ) (r : TextAnswer)
+    → boundary.ListWithTold text budget out r after
+    → Refuses (ListRefused (listedWith text budget) out) (boundary.textSays r) (0 ∷ []) (after ≡ out)
+refused-by-cuddlelamb-list-with-budget = cuddlelamb-list-with-refuses
 
 pub refused-by-cuddlelamb-write : (t : Table) (out after : List ℕ) (r : TextAnswer) → boundary.WriteTold t out r after
     → Refuses (WriteRefused t out) (boundary.textSays r) (0 ∷ []) (after ≡ out)
@@ -164,28 +181,36 @@ pub refused-by-cuddlelamb-costs : (model : ℕ) (r : CostsAnswer) → boundary.C
     → Refuses (CostsRefused model) (boundary.costsSays r) (0 ∷ 0 ∷ 0 ∷ 0 ∷ 0 ∷ 0 ∷ 0 ∷ []) NothingLent
 refused-by-cuddlelamb-costs = cuddlelamb-costs-refuses
 
--- DEMAND 2. "Plan, fates, speed and energy are those that the rules of document 01 give, no others."
+-- DEMAND 2. "Plan, fates, speed and energy are those that the rules of document 01 give, no others." A table that the check takes
+-- is planned with the budget beside it.
 
-pub plan-into-by-the-rules : (l : Lfts 3) (text order fates order′ fates′ : RefT (List ℕ)) (d : Decision) (t : Records)
-    → planner.Promised l text order fates d order′ fates′ → read (text .now) ≡ taken t → HasRoom (order .now) (fates .now)
-    → PlannedBy t (order .now) (fates .now) (decisionSays d) (order′ .now) (fates′ .now)
+pub plan-into-by-the-rules : (l : Lfts 2) (table : Table) (budget : ℕ) (order fates order′ fates′ : RefT (List ℕ)) (d : Decision)
+    (t : Records) → planner.Promised l table budget order fates d order′ fates′ → check table ≡ taken t → isBudget budget ≡ true
+    → HasRoom (order .now) (fates .now)
+    → PlannedBy (withBudget t budget) (order .now) (fates .now) (decisionSays d) (order′ .now) (fates′ .now)
 plan-into-by-the-rules = plan-into-gives
 
-pub plan-by-the-rules : (text order fates : List ℕ) (begin : ℕ × ℕ) (r : Planned) (fates′ : List ℕ) (t : Records)
-    → PlannedAs (read text) order fates begin r fates′ → read text ≡ taken t → HasRoom order fates
-    → PartBy t fates (decisionSays (r .decision)) (now (r .plan)) fates′
+pub plan-by-the-rules : (table : Table) (budget : ℕ) (order fates : List ℕ) (begin : ℕ × ℕ) (r : Planned) (fates′ : List ℕ)
+    (t : Records) → PlannedAs (takenWith table budget) order fates begin r fates′ → check table ≡ taken t → isBudget budget ≡ true
+    → HasRoom order fates → PartBy (withBudget t budget) fates (decisionSays (r .decision)) (now (r .plan)) fates′
 plan-by-the-rules = plan-gives
 
 -- `plan_into` and then `hand_back` of the buffer that it left: the part, and behind it every place as `plan_into` left it
-pub every-place-by-the-rules : (l : Lfts 3) (text order fates order′ fates′ : RefT (List ℕ)) (d : Decision) (begin at : ℕ × ℕ)
-    (part : List ℕ) → planner.Promised l text order fates d order′ fates′ → HandedBack (order′ .now) begin d part at
-    → Together (read (text .now)) (order .now) (fates .now) begin (order′ .now) part at
+pub every-place-by-the-rules : (l : Lfts 2) (table : Table) (budget : ℕ) (order fates order′ fates′ : RefT (List ℕ)) (d : Decision)
+    (begin at : ℕ × ℕ) (part : List ℕ) → planner.Promised l table budget order fates d order′ fates′
+    → HandedBack (order′ .now) begin d part at
+    → Together (takenWith table budget) (order .now) (fates .now) begin (order′ .now) part at
 every-place-by-the-rules = plan-into-then-hand-back
 
 pub list-by-the-rules : (l : Lfts 2) (text out after : RefT (List ℕ)) (w : Written) → listing.Promised l text out w after
     → length (listingOf (text .now)) ≤ length (out .now)
     → AtFront (listingOf (text .now)) (out .now) (writtenSays w) (after .now)
 list-by-the-rules = list-gives
+
+pub list-with-budget-by-the-rules : (l : Lfts 2) (text : RefT (List ℕ)) (budget : ℕ) (out after : RefT (List ℕ)) (w : Written)
+    → listing.PromisedWith l text budget out w after → length (listedWith (text .now) budget) ≤ length (out .now)
+    → AtFront (listedWith (text .now) budget) (out .now) (writtenSays w) (after .now)
+list-with-budget-by-the-rules = list-with-gives
 
 pub valid-table-is-written : (l : Lfts 1) (t : Table) (out after : RefT (List ℕ)) (w : Written) → writer.Promised l t out w after
     → WithinPlaces t → Valid (recordsOf t) → length (textOf (recordsOf t)) ≤ length (out .now)
@@ -262,16 +287,21 @@ allocate-by-the-rules mean variance assurance r promise = promise
 pub supplied-by-the-rules : (model : ℕ) (r : Supplied) → costs.Promised model r → suppliedSays r ≡ suppliedCosts model
 supplied-by-the-rules model r promise = promise
 
--- the six calls for C and Rust
+-- the seven calls for C and Rust
 
-pub cuddlelamb-plan-by-the-rules : (text order fates order′ fates′ : List ℕ) (r : PlanAnswer) (t : Records)
-    → boundary.PlanTold (read text) order fates r order′ fates′ → read text ≡ taken t → HasRoom order fates
-    → PlannedBy t order fates (boundary.planSays r) order′ fates′
+pub cuddlelamb-plan-by-the-rules : (table : Table) (budget : ℕ) (order fates order′ fates′ : List ℕ) (r : PlanAnswer) (t : Records)
+    → boundary.PlanTold (takenWith table budget) order fates r order′ fates′ → check table ≡ taken t → isBudget budget ≡ true
+    → HasRoom order fates → PlannedBy (withBudget t budget) order fates (boundary.planSays r) order′ fates′
 cuddlelamb-plan-by-the-rules = cuddlelamb-plan-gives
 
 pub cuddlelamb-list-by-the-rules : (text out after : List ℕ) (r : TextAnswer) → boundary.ListTold text out r after
     → length (listingOf text) ≤ length out → AtFront (listingOf text) out (boundary.textSays r) after
 cuddlelamb-list-by-the-rules = cuddlelamb-list-gives
+
+pub cuddlelamb-list-with-budget-by-the-rules : (text : List ℕ) (budget : ℕ) (out after : List ℕ) (r : TextAnswer)
+    → boundary.ListWithTold text budget out r after → length (listedWith text budget) ≤ length out
+    → AtFront (listedWith text budget) out (boundary.textSays r) after
+cuddlelamb-list-with-budget-by-the-rules = cuddlelamb-list-with-gives
 
 pub valid-table-is-written-by-cuddlelamb-write : (t : Table) (out after : List ℕ) (r : TextAnswer)
     → boundary.WriteTold t out r after → WithinPlaces t → Valid (recordsOf t) → length (textOf (recordsOf t)) ≤ length out
@@ -303,6 +333,92 @@ pub written-and-read-again : (l l′ : Lfts 1) (t : Table) (out after : RefT (Li
     → (r : Reading) → reader.Promised l text r → SameTable t r
 written-and-read-again = table-again
 
+-- Document 02, A5: "With the text's own budget and buffers large enough, the two answer as the one did, refusals included; the
+-- buffer check moves with planning, after reading." A text that is read, planned as its table with its own budget, whatever buffers
+-- are lent; one that is refused, with room; and where a buffer is short: there the one call said 8, line 0, of every text, and so of
+-- a refused one, of which the two tell the refusal that reading gives.
+
+pub read-then-plan-into-as-the-one : (l : Lfts 1) (text : RefT (List ℕ)) (r : Reading) → reader.Promised l text r
+    → r .verdict ≡ Verdict.Done → (l′ : Lfts 2) (order fates order′ fates′ : RefT (List ℕ)) (d : Decision)
+    → planner.Promised l′ (r .table) (r .table .budget) order fates d order′ fates′
+    → LeavesAsTheOne (text .now) (order .now) (fates .now) (decisionSays d) (order′ .now) (fates′ .now)
+read-then-plan-into-as-the-one = plan-into-as-the-one
+
+pub read-then-plan-as-the-one : (l : Lfts 1) (text : RefT (List ℕ)) (r : Reading) → reader.Promised l text r
+    → r .verdict ≡ Verdict.Done → (order fates : List ℕ) (begin : ℕ × ℕ) (p : Planned) (fates′ : List ℕ)
+    → PlannedAs (takenWith (r .table) (r .table .budget)) order fates begin p fates′
+    → AsTheOne (text .now) order fates (decisionSays (p .decision)) (now (p .plan)) fates′
+read-then-plan-as-the-one = plan-as-the-one
+
+pub refused-reading-as-the-one : (l : Lfts 1) (text : RefT (List ℕ)) (r : Reading) → reader.Promised l text r
+    → (why : Refusal) (line : ℕ) → r .verdict ≡ Verdict.Refused why line → (order fates : List ℕ) → HasRoom order fates
+    → NotPlanned (text .now) order fates (numberOf why) line
+refused-reading-as-the-one = refused-as-the-one
+
+pub where-a-buffer-is-short : (text order fates : List ℕ) → (length order < mostJobs) ⊎ (length fates < mostJobs)
+    → OneSaidRoom text order fates
+where-a-buffer-is-short = one-said-room
+
+pub refused-reading-not-as-the-one : (l : Lfts 1) (text : RefT (List ℕ)) (r : Reading) → reader.Promised l text r
+    → (why : Refusal) (line : ℕ) → r .verdict ≡ Verdict.Refused why line → (order fates : List ℕ)
+    → (length order < mostJobs) ⊎ (length fates < mostJobs) → OtherThanTheOne (text .now) order fates (numberOf why) line
+refused-reading-not-as-the-one = refused-not-as-the-one
+
+pub cuddlelamb-read-then-plan-as-the-one : (text : List ℕ) (r : TableAnswer) → boundary.ReadTold text r → r .number ≡ 0
+    → (order fates order′ fates′ : List ℕ) (s : PlanAnswer)
+    → boundary.PlanTold (takenWith (r .table) (r .table .budget)) order fates s order′ fates′
+    → LeavesAsTheOne text order fates (boundary.planSays s) order′ fates′
+cuddlelamb-read-then-plan-as-the-one = cuddlelamb-plan-as-the-one
+
+pub cuddlelamb-refused-reading-as-the-one : (text : List ℕ) (r : TableAnswer) → boundary.ReadTold text r → ¬ (r .number ≡ 0)
+    → (order fates : List ℕ) → HasRoom order fates → NotPlanned text order fates (r .number) (r .line)
+cuddlelamb-refused-reading-as-the-one = cuddlelamb-refused-as-the-one
+
+-- The budget beside the table is the one that counts: with both budgets in range, planning is that of the same table whose T has
+-- the budget beside. The listing is that with the text's own budget beside it, and of a refused text that with any.
+
+pub budget-beside-is-planned-with : (table : Table) (budget : ℕ) → isBudget (table .budget) ≡ true → isBudget budget ≡ true
+    → (l l* : Lfts 2) (order fates a b a′ b′ : RefT (List ℕ)) (d e : Decision) → planner.Promised l table budget order fates d a b
+    → planner.Promised l* (tableWithBudget table budget) budget order fates e a′ b′
+    → (d ≡ e) × (a .now ≡ a′ .now) × (b .now ≡ b′ .now)
+budget-beside-is-planned-with = same-as-its-own
+
+pub budget-beside-is-planned-with-by-plan : (table : Table) (budget : ℕ) → isBudget (table .budget) ≡ true → isBudget budget ≡ true
+    → (order fates : List ℕ) (begin begin* : ℕ × ℕ) (r s : Planned) (b b′ : List ℕ)
+    → PlannedAs (takenWith table budget) order fates begin r b
+    → PlannedAs (takenWith (tableWithBudget table budget) budget) order fates begin* s b′
+    → (now (r .plan) ≡ now (s .plan)) × (r .decision ≡ s .decision) × (b ≡ b′)
+budget-beside-is-planned-with-by-plan = part-as-its-own
+
+pub budget-beside-is-planned-with-by-cuddlelamb-plan : (table : Table) (budget : ℕ) → isBudget (table .budget) ≡ true
+    → isBudget budget ≡ true → (order fates a b a′ b′ : List ℕ) (r s : PlanAnswer)
+    → boundary.PlanTold (takenWith table budget) order fates r a b
+    → boundary.PlanTold (takenWith (tableWithBudget table budget) budget) order fates s a′ b′ → (r ≡ s) × (a ≡ a′) × (b ≡ b′)
+budget-beside-is-planned-with-by-cuddlelamb-plan = told-as-its-own
+
+pub budget-beside-is-listed-with : (l l* : Lfts 2) (text text* out a b : RefT (List ℕ)) (w v : Written) (t : Records) (budget : ℕ)
+    → read (text .now) ≡ taken t → isBudget budget ≡ true → text* .now ≡ textOf (withBudget t budget)
+    → listing.Promised l text* out w a → listing.PromisedWith l* text budget out v b → (w ≡ v) × (a .now ≡ b .now)
+budget-beside-is-listed-with = list-with-as-its-own
+
+pub list-is-at-the-own-budget : (l l* : Lfts 2) (text out a b : RefT (List ℕ)) (w v : Written) → listing.Promised l text out w a
+    → (t : Records) → read (text .now) ≡ taken t → listing.PromisedWith l* text (t .budget) out v b → (w ≡ v) × (a .now ≡ b .now)
+list-is-at-the-own-budget = list-at-own-budget
+
+pub refused-text-is-listed-alike : (l l* : Lfts 2) (text out a b : RefT (List ℕ)) (w v : Written)
+    → listing.Promised l text out w a → (why : Refusal) (line : ℕ) → read (text .now) ≡ refusedAt why line → (budget : ℕ)
+    → listing.PromisedWith l* text budget out v b → (w ≡ v) × (a .now ≡ b .now)
+refused-text-is-listed-alike = list-refused-at-any-budget
+
+pub cuddlelamb-list-is-at-the-own-budget : (text out a b : List ℕ) (r s : TextAnswer) → boundary.ListTold text out r a
+    → (t : Records) → read text ≡ taken t → boundary.ListWithTold text (t .budget) out s b → (r ≡ s) × (a ≡ b)
+cuddlelamb-list-is-at-the-own-budget = cuddlelamb-list-at-own-budget
+
+pub refused-text-is-listed-alike-by-cuddlelamb-list : (text out a b : List ℕ) (r s : TextAnswer)
+    → boundary.ListTold text out r a → (why : Refusal) (line : ℕ) → read text ≡ refusedAt why line → (budget : ℕ)
+    → boundary.ListWithTold text budget out s b → (r ≡ s) × (a ≡ b)
+refused-text-is-listed-alike-by-cuddlelamb-list = cuddlelamb-list-refused-at-any-budget
+
 -- "no others": any two answers that a promise allows are one, and so is what the lent buffers hold
 
 pub one-answer-of-read : (l : Lfts 1) (text : RefT (List ℕ)) (r s : Reading) → reader.Promised l text r
@@ -313,13 +429,13 @@ pub one-answer-of-write : (l : Lfts 1) (t : Table) (out a b : RefT (List ℕ)) (
     → writer.Promised l t out s b → (r ≡ s) × (a .now ≡ b .now)
 one-answer-of-write = writer.unique
 
-pub one-answer-of-plan-into : (l : Lfts 3) (text order fates a b a′ b′ : RefT (List ℕ)) (r s : Decision)
-    → planner.Promised l text order fates r a b → planner.Promised l text order fates s a′ b′
+pub one-answer-of-plan-into : (l : Lfts 2) (table : Table) (budget : ℕ) (order fates a b a′ b′ : RefT (List ℕ)) (r s : Decision)
+    → planner.Promised l table budget order fates r a b → planner.Promised l table budget order fates s a′ b′
     → (r ≡ s) × (a .now ≡ a′ .now) × (b .now ≡ b′ .now)
 one-answer-of-plan-into = planner.unique-into
 
-pub one-answer-of-plan : (text order fates : List ℕ) (begin : ℕ × ℕ) (r s : Planned) (b b′ : List ℕ)
-    → PlannedAs (read text) order fates begin r b → PlannedAs (read text) order fates begin s b′
+pub one-answer-of-plan : (table : Table) (budget : ℕ) (order fates : List ℕ) (begin : ℕ × ℕ) (r s : Planned) (b b′ : List ℕ)
+    → PlannedAs (takenWith table budget) order fates begin r b → PlannedAs (takenWith table budget) order fates begin s b′
     → (now (r .plan) ≡ now (s .plan)) × (ptr (r .plan) ≡ ptr (s .plan)) × (r .decision ≡ s .decision) × (b ≡ b′)
 one-answer-of-plan = planner.unique-plan
 
@@ -330,6 +446,10 @@ one-answer-of-hand-back = hand-back-unique
 pub one-answer-of-list : (l : Lfts 2) (text out a b : RefT (List ℕ)) (r s : Written) → listing.Promised l text out r a
     → listing.Promised l text out s b → (r ≡ s) × (a .now ≡ b .now)
 one-answer-of-list = listing.unique
+
+pub one-answer-of-list-with-budget : (l : Lfts 2) (text : RefT (List ℕ)) (budget : ℕ) (out a b : RefT (List ℕ)) (r s : Written)
+    → listing.PromisedWith l text budget out r a → listing.PromisedWith l text budget out s b → (r ≡ s) × (a .now ≡ b .now)
+one-answer-of-list-with-budget = listing.unique-with-budget
 
 pub one-answer-of-allocate : (mean variance assurance : ℕ) (r s : Allocated) → cycles.Promised mean variance assurance r
     → cycles.Promised mean variance assurance s → r ≡ s
@@ -358,15 +478,20 @@ pub one-answer-of-clock-and-budget : (l : Lfts 1) (text : RefT (List ℕ)) (r s 
     → front.Promised l text s → r ≡ s
 one-answer-of-clock-and-budget = front.clock-and-budget-unique
 
--- the six calls for C and Rust
+-- the seven calls for C and Rust
 
-pub one-answer-of-cuddlelamb-plan : (text order fates : List ℕ) (r s : PlanAnswer) (a b a′ b′ : List ℕ)
-    → boundary.PlanTold (read text) order fates r a b → boundary.PlanTold (read text) order fates s a′ b′ → (r ≡ s) × (a ≡ a′) × (b ≡ b′)
+pub one-answer-of-cuddlelamb-plan : (table : Table) (budget : ℕ) (order fates : List ℕ) (r s : PlanAnswer) (a b a′ b′ : List ℕ)
+    → boundary.PlanTold (takenWith table budget) order fates r a b → boundary.PlanTold (takenWith table budget) order fates s a′ b′
+    → (r ≡ s) × (a ≡ a′) × (b ≡ b′)
 one-answer-of-cuddlelamb-plan = plan-unique
 
 pub one-answer-of-cuddlelamb-list : (text out : List ℕ) (r s : TextAnswer) (a b : List ℕ) → boundary.ListTold text out r a
     → boundary.ListTold text out s b → (r ≡ s) × (a ≡ b)
 one-answer-of-cuddlelamb-list = list-unique
+
+pub one-answer-of-cuddlelamb-list-with-budget : (text : List ℕ) (budget : ℕ) (out : List ℕ) (r s : TextAnswer) (a b : List ℕ)
+    → boundary.ListWithTold text budget out r a → boundary.ListWithTold text budget out s b → (r ≡ s) × (a ≡ b)
+one-answer-of-cuddlelamb-list-with-budget = list-with-unique
 
 pub one-answer-of-cuddlelamb-write : (t : Table) (out : List ℕ) (r s : TextAnswer) (a b : List ℕ) → boundary.WriteTold t out r a
     → boundary.WriteTold t out s b → (r ≡ s) × (a ≡ b)
@@ -382,49 +507,71 @@ one-answer-of-cuddlelamb-allocate = allocate-unique
 pub one-answer-of-cuddlelamb-costs : (model : ℕ) (r s : CostsAnswer) → boundary.CostsTold model r → boundary.CostsTold model s → r ≡ s
 one-answer-of-cuddlelamb-costs = costs-unique
 
--- DEMAND 3. "Jobs that are not planned don't matter." Two texts are read as tables that agree in every job outside a set of
--- numbers, in the resources those jobs hold, and in clock, budget, speeds and costs; in neither a job outside asks for what a job
--- inside holds (`TextsAgree`). Both calls have room, and neither plan holds a number of the set. Then the answers are one, the
--- plans handed back at the fronts of the order buffers are, and each job outside has one fate.
+-- DEMAND 3. "Jobs that are not planned don't matter." Two tables agree in every job outside a set of numbers, in the resources
+-- those jobs hold, and in clock, speeds and costs; in neither a job outside asks for what a job inside holds (`BothAgree`). "In
+-- demand 3 the budget is the one given beside the table": one budget is beside both, and their own may differ. Both calls have
+-- room, and neither plan holds a number of the set. Then the answers are one, the plans handed back at the fronts of the order
+-- buffers are, and each job outside has one fate.
 
-pub unplanned-jobs-do-not-matter : (set : ℕ → Bool) (l l* : Lfts 3)
-    (text text* order order* fates fates* order′ order*′ fates′ fates*′ : RefT (List ℕ)) (d e : Decision) (a b : Records)
-    → planner.Promised l text order fates d order′ fates′ → planner.Promised l* text* order* fates* e order*′ fates*′
-    → TextsAgree set (text .now) (text* .now) a b → HasRoom (order .now) (fates .now) → HasRoom (order* .now) (fates* .now)
+pub unplanned-jobs-do-not-matter : (set : ℕ → Bool) (table table* : Table) (budget : ℕ) (a b : Records)
+    → BothAgree set (check table) (check table*) a b → isBudget budget ≡ true → (l l* : Lfts 2)
+    (order order* fates fates* order′ order*′ fates′ fates*′ : RefT (List ℕ)) (d e : Decision)
+    → planner.Promised l table budget order fates d order′ fates′ → planner.Promised l* table* budget order* fates* e order*′ fates*′
+    → HasRoom (order .now) (fates .now) → HasRoom (order* .now) (fates* .now)
     → NoneInFront set (frontOf (decisionSays d) (order′ .now)) → NoneInFront set (frontOf (decisionSays e) (order*′ .now))
     → SameOutside (outOf set) a b (decisionSays d) (decisionSays e) (order′ .now) (order*′ .now) (fates′ .now) (fates*′ .now)
 unplanned-jobs-do-not-matter = unplanned-do-not-matter-to-plan-into
 
-pub unplanned-jobs-do-not-matter-to-plan : (set : ℕ → Bool) (text text* order order* fates fates* : List ℕ) (begin begin* : ℕ × ℕ)
-    (r s : Planned) (fates′ fates*′ : List ℕ) (a b : Records)
-    → PlannedAs (read text) order fates begin r fates′ → PlannedAs (read text*) order* fates* begin* s fates*′
-    → TextsAgree set text text* a b → HasRoom order fates → HasRoom order* fates*
-    → NoneInFront set (now (r .plan)) → NoneInFront set (now (s .plan))
+pub unplanned-jobs-do-not-matter-to-plan : (set : ℕ → Bool) (table table* : Table) (budget : ℕ) (a b : Records)
+    → BothAgree set (check table) (check table*) a b → isBudget budget ≡ true → (order order* fates fates* : List ℕ)
+    (begin begin* : ℕ × ℕ) (r s : Planned) (fates′ fates*′ : List ℕ)
+    → PlannedAs (takenWith table budget) order fates begin r fates′ → PlannedAs (takenWith table* budget) order* fates* begin* s fates*′
+    → HasRoom order fates → HasRoom order* fates* → NoneInFront set (now (r .plan)) → NoneInFront set (now (s .plan))
     → SamePart (outOf set) a b (decisionSays (r .decision)) (decisionSays (s .decision))
     (now (r .plan)) (now (s .plan)) fates′ fates*′
 unplanned-jobs-do-not-matter-to-plan = unplanned-do-not-matter-to-plan
 
-pub unplanned-jobs-do-not-matter-to-cuddlelamb-plan : (set : ℕ → Bool)
-    (text text* order order* fates fates* order′ order*′ fates′ fates*′ : List ℕ) (r s : PlanAnswer) (a b : Records)
-    → boundary.PlanTold (read text) order fates r order′ fates′ → boundary.PlanTold (read text*) order* fates* s order*′ fates*′
-    → TextsAgree set text text* a b → HasRoom order fates → HasRoom order* fates*
+pub unplanned-jobs-do-not-matter-to-cuddlelamb-plan : (set : ℕ → Bool) (table table* : Table) (budget : ℕ) (a b : Records)
+    → BothAgree set (check table) (check table*) a b → isBudget budget ≡ true
+    → (order order* fates fates* order′ order*′ fates′ fates*′ : List ℕ) (r s : PlanAnswer)
+    → boundary.PlanTold (takenWith table budget) order fates r order′ fates′
+    → boundary.PlanTold (takenWith table* budget) order* fates* s order*′ fates*′ → HasRoom order fates → HasRoom order* fates*
     → NoneInFront set (frontOf (boundary.planSays r) order′) → NoneInFront set (frontOf (boundary.planSays s) order*′)
     → SameOutside (outOf set) a b (boundary.planSays r) (boundary.planSays s) order′ order*′ fates′ fates*′
 unplanned-jobs-do-not-matter-to-cuddlelamb-plan = unplanned-do-not-matter-to-cuddlelamb-plan
 
 -- The listings, at the fronts of their buffers: the P line and the O lines are the same bytes, and so are the X lines of the jobs
--- outside.
+-- outside. Without a budget beside them the texts agree in their own.
 
 pub unplanned-jobs-do-not-matter-to-list : (set : ℕ → Bool) (l l* : Lfts 2) (text text* out out* after after* : RefT (List ℕ))
-    (w v : Written) (a b : Records) → listing.Promised l text out w after → listing.Promised l* text* out* v after*
-    → TextsAgree set (text .now) (text* .now) a b → NonePlanned set a → NonePlanned set b
+    (w v : Written) (a b : Records) → BothAgree set (read (text .now)) (read (text* .now)) a b → a .budget ≡ b .budget
+    → listing.Promised l text out w after → listing.Promised l* text* out* v after* → NonePlanned set a → NonePlanned set b
     → length (listingOf (text .now)) ≤ length (out .now) → length (listingOf (text* .now)) ≤ length (out* .now)
     → SameListing (outOf set) a b (frontOf (writtenSays w) (after .now)) (frontOf (writtenSays v) (after* .now))
 unplanned-jobs-do-not-matter-to-list = unplanned-do-not-matter-to-list
 
+pub unplanned-jobs-do-not-matter-to-list-with-budget : (set : ℕ → Bool) (l l* : Lfts 2)
+    (text text* out out* after after* : RefT (List ℕ)) (w v : Written) (a b : Records)
+    → BothAgree set (read (text .now)) (read (text* .now)) a b → (budget : ℕ) → isBudget budget ≡ true
+    → listing.PromisedWith l text budget out w after → listing.PromisedWith l* text* budget out* v after*
+    → NonePlanned set (withBudget a budget) → NonePlanned set (withBudget b budget)
+    → length (listedWith (text .now) budget) ≤ length (out .now) → length (listedWith (text* .now) budget) ≤ length (out* .now)
+    → SameListing (outOf set) (withBudget a budget) (withBudget b budget)
+    (frontOf (writtenSays w) (after .now)) (frontOf (writtenSays v) (after* .now))
+unplanned-jobs-do-not-matter-to-list-with-budget = unplanned-do-not-matter-to-list-with
+
 pub unplanned-jobs-do-not-matter-to-cuddlelamb-list : (set : ℕ → Bool) (text text* out out* after after* : List ℕ)
-    (r s : TextAnswer) (a b : Records) → boundary.ListTold text out r after → boundary.ListTold text* out* s after*
-    → TextsAgree set text text* a b → NonePlanned set a → NonePlanned set b
+    (r s : TextAnswer) (a b : Records) → BothAgree set (read text) (read text*) a b → a .budget ≡ b .budget
+    → boundary.ListTold text out r after → boundary.ListTold text* out* s after* → NonePlanned set a → NonePlanned set b
     → length (listingOf text) ≤ length out → length (listingOf text*) ≤ length out*
     → SameListing (outOf set) a b (frontOf (boundary.textSays r) after) (frontOf (boundary.textSays s) after*)
 unplanned-jobs-do-not-matter-to-cuddlelamb-list = unplanned-do-not-matter-to-cuddlelamb-list
+
+pub unplanned-jobs-do-not-matter-to-cuddlelamb-list-with-budget : (set : ℕ → Bool) (text text* out out* after after* : List ℕ)
+    (r s : TextAnswer) (a b : Records) → BothAgree set (read text) (read text*) a b → (budget : ℕ) → isBudget budget ≡ true
+    → boundary.ListWithTold text budget out r after → boundary.ListWithTold text* budget out* s after*
+    → NonePlanned set (withBudget a budget) → NonePlanned set (withBudget b budget)
+    → length (listedWith text budget) ≤ length out → length (listedWith text* budget) ≤ length out*
+    → SameListing (outOf set) (withBudget a budget) (withBudget b budget)
+    (frontOf (boundary.textSays r) after) (frontOf (boundary.textSays s) after*)
+unplanned-jobs-do-not-matter-to-cuddlelamb-list-with-budget = unplanned-do-not-matter-to-cuddlelamb-list-with

@@ -3,4 +3,5 @@ mod RulesRefuse
 mod Refused
 mod Planned
 mod Unplanned
+mod ReadOnce
 mod Demands

@@ -1,5 +1,6 @@
 -- Demand 2 over the calls: what they answer where nothing is refused is what the rules give, in every lent buffer, to the last
 -- place. Each law speaks of any answer that the call's promise allows. Assumes nothing.
+use mathlib.Core.Bool.{true}
 use mathlib.Core.List.{List, []}
 use mathlib.Core.Path.{_≡_, refl, ap, _∙_}
 use Prim.Native.Nat.{ℕ, _≤_}
@@ -16,6 +17,7 @@ use Rattle.demands.specs.Plans.{AtFront, HasRoom, PartBy, PlannedBy}
 use Rattle.front.proofs.Unique as front
 use Rattle.front.proofs.WholeText.{answer-of-table}
 use Rattle.front.specs.declared.ClockLine.{ClockLine}
+use Rattle.grammar.proofs.BudgetBeside.{taken-with}
 use Rattle.grammar.proofs.Trips.{check-exactly}
 use Rattle.laws.proofs.Unique.{reading-unique}
 use Rattle.listing.proofs.Unique as listing
@@ -25,10 +27,10 @@ use Rattle.planner.specs.Promises.{PlannedAs}
 use Rattle.planner.specs.declared.Planned.{Planned}
 use Rattle.reader.proofs.Unique as reader
 use Rattle.rules.specs.Answers.{Answer, decisionSays, good, writtenSays}
-use Rattle.rules.specs.Listing.{listing, listingOf}
-use Rattle.rules.specs.Plan.{AfterPlanning, leavesOf, leavesPlan, numbersOf, partOf, planOf, planningOfUpTo, planningOf}
-use Rattle.rules.specs.Refusals.{AfterWriting, read, readingUpTo, tableAnswerUpTo, taken, writing, written, writtenOf, Taken}
-use Rattle.rules.specs.TableText.{Records, padded, recordsOf, tableOf, textOf}
+use Rattle.rules.specs.Listing.{listedWith, listing, listingOf, listingWith}
+use Rattle.rules.specs.Plan.{AfterPlanning, leavesOf, leavesPlan, numbersOf, partOf, planOf, planningOfUpTo, planningOf, takenWith}
+use Rattle.rules.specs.Refusals.{AfterWriting, check, read, readingUpTo, tableAnswerUpTo, taken, writing, written, writtenOf, Taken}
+use Rattle.rules.specs.TableText.{Records, isBudget, padded, recordsOf, tableOf, textOf, withBudget}
 use Rattle.rules.specs.Valid.{Valid, WithinPlaces}
 use Rattle.rules.specs.declared.Decision.{Decision}
 use Rattle.rules.specs.declared.Reading.{Reading}
@@ -57,21 +59,23 @@ planned-by k order fates t e large says order′ fates′ answered order-left fa
     }
 
 -- `plan_into`
-pub plan-into-gives : (lifetimes : Lfts 3) (text order fates order′ fates′ : RefT (List ℕ)) (d : Decision) (t : Records)
-    → planner.Promised lifetimes text order fates d order′ fates′ → read (text .now) ≡ taken t → HasRoom (order .now) (fates .now)
-    → PlannedBy t (order .now) (fates .now) (decisionSays d) (order′ .now) (fates′ .now)
-plan-into-gives lifetimes text order fates order′ fates′ d t promise e large =
-    planned-by (read (text .now)) (order .now) (fates .now) t e large (decisionSays d) (order′ .now) (fates′ .now)
+pub plan-into-gives : (lifetimes : Lfts 2) (table : Table) (budget : ℕ) (order fates order′ fates′ : RefT (List ℕ)) (d : Decision)
+    (t : Records) → planner.Promised lifetimes table budget order fates d order′ fates′ → check table ≡ taken t
+    → isBudget budget ≡ true → HasRoom (order .now) (fates .now)
+    → PlannedBy (withBudget t budget) (order .now) (fates .now) (decisionSays d) (order′ .now) (fates′ .now)
+plan-into-gives lifetimes table budget order fates order′ fates′ d t promise e h large =
+    planned-by (takenWith table budget) (order .now) (fates .now) (withBudget t budget) (taken-with table budget t h e) large
+    (decisionSays d) (order′ .now) (fates′ .now)
     (ap (λ (a : AfterPlanning). a .answer) promise)
     (ap (λ (a : AfterPlanning). a .order) promise)
     (ap (λ (a : AfterPlanning). a .fates) promise)
 
-pub cuddlelamb-plan-gives : (text order fates order′ fates′ : List ℕ) (r : PlanAnswer) (t : Records)
-    → boundary.PlanTold (read text) order fates r order′ fates′ → read text ≡ taken t → HasRoom order fates
-    → PlannedBy t order fates (boundary.planSays r) order′ fates′
-cuddlelamb-plan-gives text order fates order′ fates′ r t promise e large =
-    planned-by (read text) order fates t e large (boundary.planSays r) order′ fates′
-    (promise .answer) (promise .order-left) (promise .fates-left)
+pub cuddlelamb-plan-gives : (table : Table) (budget : ℕ) (order fates order′ fates′ : List ℕ) (r : PlanAnswer) (t : Records)
+    → boundary.PlanTold (takenWith table budget) order fates r order′ fates′ → check table ≡ taken t → isBudget budget ≡ true
+    → HasRoom order fates → PlannedBy (withBudget t budget) order fates (boundary.planSays r) order′ fates′
+cuddlelamb-plan-gives table budget order fates order′ fates′ r t promise e h large =
+    planned-by (takenWith table budget) order fates (withBudget t budget) (taken-with table budget t h e) large
+    (boundary.planSays r) order′ fates′ (promise .answer) (promise .order-left) (promise .fates-left)
 
 numbers-length : (t : Records) → length (numbersOf (planOf t .jobs)) ≡ length (planOf t .jobs)
 unfolding numbersOf
@@ -83,14 +87,15 @@ pub front-of-plan : (t : Records) (places : ℕ)
 front-of-plan t places = take-at (numbersOf (planOf t .jobs)) _ (length (planOf t .jobs)) (numbers-length t)
 
 -- `plan`: the part is the plan
-pub plan-gives : (text order fates : List ℕ) (begin : ℕ × ℕ) (r : Planned) (fates′ : List ℕ) (t : Records)
-    → PlannedAs (read text) order fates begin r fates′ → read text ≡ taken t → HasRoom order fates
-    → PartBy t fates (decisionSays (r .decision)) (now (r .plan)) fates′
+pub plan-gives : (table : Table) (budget : ℕ) (order fates : List ℕ) (begin : ℕ × ℕ) (r : Planned) (fates′ : List ℕ) (t : Records)
+    → PlannedAs (takenWith table budget) order fates begin r fates′ → check table ≡ taken t → isBudget budget ≡ true
+    → HasRoom order fates → PartBy (withBudget t budget) fates (decisionSays (r .decision)) (now (r .plan)) fates′
 unfolding leavesPlan partOf
-plan-gives text order fates begin r fates′ t promise e large =
-    let same = planning-taken (read text) order fates t e large in
+plan-gives table budget order fates begin r fates′ t promise e h large =
+    let same =
+    planning-taken (takenWith table budget) order fates (withBudget t budget) (taken-with table budget t h e) large in
     record {
-      part-is = promise .plan ∙ ap partOf same ∙ front-of-plan t (length order);
+      part-is = promise .plan ∙ ap partOf same ∙ front-of-plan (withBudget t budget) (length order);
       answer = promise .decided ∙ ap (λ (a : AfterPlanning). a .answer) same;
       fates-left = promise .fates-left ∙ ap (λ (a : AfterPlanning). a .fates) same;
     }
@@ -111,6 +116,22 @@ unfolding listing
 list-gives lifetimes text out after w promise h =
     at-front (listingOf (text .now)) (out .now) h (writtenSays w) (after .now)
     (ap (λ (a : AfterWriting). a .answer) promise) (ap (λ (a : AfterWriting). a .out) promise)
+
+-- `list_with_budget`
+pub list-with-gives : (lifetimes : Lfts 2) (text : RefT (List ℕ)) (budget : ℕ) (out after : RefT (List ℕ)) (w : Written)
+    → listing.PromisedWith lifetimes text budget out w after → length (listedWith (text .now) budget) ≤ length (out .now)
+    → AtFront (listedWith (text .now) budget) (out .now) (writtenSays w) (after .now)
+unfolding listingWith
+list-with-gives lifetimes text budget out after w promise h =
+    at-front (listedWith (text .now) budget) (out .now) h (writtenSays w) (after .now)
+    (ap (λ (a : AfterWriting). a .answer) promise) (ap (λ (a : AfterWriting). a .out) promise)
+
+pub cuddlelamb-list-with-gives : (text : List ℕ) (budget : ℕ) (out after : List ℕ) (r : TextAnswer)
+    → boundary.ListWithTold text budget out r after → length (listedWith text budget) ≤ length out
+    → AtFront (listedWith text budget) out (boundary.textSays r) after
+unfolding listingWith
+cuddlelamb-list-with-gives text budget out after r promise h =
+    at-front (listedWith text budget) out h (boundary.textSays r) after (promise .answer) (promise .out-left)
 
 pub cuddlelamb-list-gives : (text out after : List ℕ) (r : TextAnswer) → boundary.ListTold text out r after
     → length (listingOf text) ≤ length out → AtFront (listingOf text) out (boundary.textSays r) after

@@ -14,7 +14,7 @@ use Rattle.boundary.specs.declared.TableAnswer.{TableAnswer}
 use Rattle.boundary.specs.declared.TextAnswer.{TextAnswer}
 use Rattle.costs.proofs.Unique as costs
 use Rattle.cycles.proofs.Unique as cycles
-use Rattle.demands.proofs.RulesRefuse.{allocation-refuses, carried, costs-refuses, first-line-refuses, listing-refuses, planning-refuses, reading-refuses, writing-refuses}
+use Rattle.demands.proofs.RulesRefuse.{allocation-refuses, carried, costs-refuses, first-line-refuses, listing-refuses, listing-with-refuses, planning-refuses, reading-refuses, writing-refuses}
 use Rattle.demands.specs.Refused.{AllocationRefused, CostsRefused, FirstLineRefused, ListRefused, NothingLent, PlanRefused, ReadRefused, Refuses, WriteRefused}
 use Rattle.front.proofs.FirstLine.{no-line}
 use Rattle.front.proofs.Unique as front
@@ -27,8 +27,9 @@ use Rattle.planner.specs.Promises.{PlannedAs}
 use Rattle.planner.specs.declared.Planned.{Planned}
 use Rattle.reader.proofs.Unique as reader
 use Rattle.rules.specs.Answers.{ReadAnswer, allocatedSays, decisionSays, readingSays, suppliedSays, writtenSays}
-use Rattle.rules.specs.Plan.{AfterPlanning}
-use Rattle.rules.specs.Refusals.{AfterWriting, read}
+use Rattle.rules.specs.Listing.{listedWith, listingOf}
+use Rattle.rules.specs.Plan.{AfterPlanning, takenWith}
+use Rattle.rules.specs.Refusals.{AfterWriting}
 use Rattle.rules.specs.TableText.{noRecords, tableOf}
 use Rattle.rules.specs.declared.Allocated.{Allocated}
 use Rattle.rules.specs.declared.Decision.{Decision}
@@ -41,27 +42,34 @@ use Rattle.writer.proofs.Unique as writer
 
 -- the calls of Rattle
 
-pub plan-into-refuses : (lifetimes : Lfts 3) (text order fates order′ fates′ : RefT (List ℕ)) (d : Decision)
-    → planner.Promised lifetimes text order fates d order′ fates′
-    → Refuses (PlanRefused (read (text .now)) (order .now) (fates .now)) (decisionSays d) (0 ∷ 0 ∷ 0 ∷ [])
+pub plan-into-refuses : (lifetimes : Lfts 2) (table : Table) (budget : ℕ) (order fates order′ fates′ : RefT (List ℕ)) (d : Decision)
+    → planner.Promised lifetimes table budget order fates d order′ fates′
+    → Refuses (PlanRefused table budget (order .now) (fates .now)) (decisionSays d) (0 ∷ 0 ∷ 0 ∷ [])
     ((order′ .now ≡ order .now) × (fates′ .now ≡ fates .now))
-plan-into-refuses lifetimes text order fates order′ fates′ d promise =
-    carried (planning-refuses (read (text .now)) (order .now) (fates .now)) (ap (λ (a : AfterPlanning). a .answer) promise)
+plan-into-refuses lifetimes table budget order fates order′ fates′ d promise =
+    carried (planning-refuses table budget (order .now) (fates .now)) (ap (λ (a : AfterPlanning). a .answer) promise)
     (λ held. (ap (λ (a : AfterPlanning). a .order) promise ∙ held .0, ap (λ (a : AfterPlanning). a .fates) promise ∙ held .1))
 
-pub plan-refuses : (text order fates : List ℕ) (begin : ℕ × ℕ) (r : Planned) (fates′ : List ℕ)
-    → PlannedAs (read text) order fates begin r fates′
-    → Refuses (PlanRefused (read text) order fates) (decisionSays (r .decision)) (0 ∷ 0 ∷ 0 ∷ [])
+pub plan-refuses : (table : Table) (budget : ℕ) (order fates : List ℕ) (begin : ℕ × ℕ) (r : Planned) (fates′ : List ℕ)
+    → PlannedAs (takenWith table budget) order fates begin r fates′
+    → Refuses (PlanRefused table budget order fates) (decisionSays (r .decision)) (0 ∷ 0 ∷ 0 ∷ [])
     ((now (r .plan) ≡ []) × (fates′ ≡ fates))
-plan-refuses text order fates begin r fates′ promise =
-    carried (planning-refuses (read text) order fates) (promise .decided)
+plan-refuses table budget order fates begin r fates′ promise =
+    carried (planning-refuses table budget order fates) (promise .decided)
     (λ held. (promise .plan ∙ held .2, promise .fates-left ∙ held .1))
 
 pub list-refuses : (lifetimes : Lfts 2) (text out after : RefT (List ℕ)) (w : Written)
     → listing.Promised lifetimes text out w after
-    → Refuses (ListRefused (text .now) (out .now)) (writtenSays w) (0 ∷ []) (after .now ≡ out .now)
+    → Refuses (ListRefused (listingOf (text .now)) (out .now)) (writtenSays w) (0 ∷ []) (after .now ≡ out .now)
 list-refuses lifetimes text out after w promise =
     carried (listing-refuses (text .now) (out .now)) (ap (λ (a : AfterWriting). a .answer) promise)
+    (λ held. ap (λ (a : AfterWriting). a .out) promise ∙ held)
+
+pub list-with-refuses : (lifetimes : Lfts 2) (text : RefT (List ℕ)) (budget : ℕ) (out after : RefT (List ℕ)) (w : Written)
+    → listing.PromisedWith lifetimes text budget out w after
+    → Refuses (ListRefused (listedWith (text .now) budget) (out .now)) (writtenSays w) (0 ∷ []) (after .now ≡ out .now)
+list-with-refuses lifetimes text budget out after w promise =
+    carried (listing-with-refuses (text .now) budget (out .now)) (ap (λ (a : AfterWriting). a .answer) promise)
     (λ held. ap (λ (a : AfterWriting). a .out) promise ∙ held)
 
 pub write-refuses : (lifetime : Lfts 1) (t : Table) (out after : RefT (List ℕ)) (w : Written)
@@ -96,17 +104,23 @@ supplied-refuses model r promise = carried (costs-refuses model) promise (λ hel
 
 -- the calls for C and Rust
 
-pub cuddlelamb-plan-refuses : (text order fates order′ fates′ : List ℕ) (r : PlanAnswer)
-    → boundary.PlanTold (read text) order fates r order′ fates′
-    → Refuses (PlanRefused (read text) order fates) (boundary.planSays r) (0 ∷ 0 ∷ 0 ∷ []) ((order′ ≡ order) × (fates′ ≡ fates))
-cuddlelamb-plan-refuses text order fates order′ fates′ r promise =
-    carried (planning-refuses (read text) order fates) (promise .answer)
+pub cuddlelamb-plan-refuses : (table : Table) (budget : ℕ) (order fates order′ fates′ : List ℕ) (r : PlanAnswer)
+    → boundary.PlanTold (takenWith table budget) order fates r order′ fates′
+    → Refuses (PlanRefused table budget order fates) (boundary.planSays r) (0 ∷ 0 ∷ 0 ∷ []) ((order′ ≡ order) × (fates′ ≡ fates))
+cuddlelamb-plan-refuses table budget order fates order′ fates′ r promise =
+    carried (planning-refuses table budget order fates) (promise .answer)
     (λ held. (promise .order-left ∙ held .0, promise .fates-left ∙ held .1))
 
 pub cuddlelamb-list-refuses : (text out after : List ℕ) (r : TextAnswer) → boundary.ListTold text out r after
-    → Refuses (ListRefused text out) (boundary.textSays r) (0 ∷ []) (after ≡ out)
+    → Refuses (ListRefused (listingOf text) out) (boundary.textSays r) (0 ∷ []) (after ≡ out)
 cuddlelamb-list-refuses text out after r promise =
     carried (listing-refuses text out) (promise .answer) (λ held. promise .out-left ∙ held)
+
+pub cuddlelamb-list-with-refuses : (text : List ℕ) (budget : ℕ) (out after : List ℕ) (r : TextAnswer)
+    → boundary.ListWithTold text budget out r after
+    → Refuses (ListRefused (listedWith text budget) out) (boundary.textSays r) (0 ∷ []) (after ≡ out)
+cuddlelamb-list-with-refuses text budget out after r promise =
+    carried (listing-with-refuses text budget out) (promise .answer) (λ held. promise .out-left ∙ held)
 
 pub cuddlelamb-write-refuses : (t : Table) (out after : List ℕ) (r : TextAnswer) → boundary.WriteTold t out r after
     → Refuses (WriteRefused t out) (boundary.textSays r) (0 ∷ []) (after ≡ out)

@@ -10,22 +10,23 @@ use lib.Dec.{leb}
 use lib.ListN.{length}
 use Rattle.demands.specs.Plans.{HasRoom}
 use Rattle.demands.specs.Refused.{AllocationRefused, CostsRefused, FirstLineRefused, IsRefusal, ListRefused, NothingLent, PlanRefused, ReadRefused, Refuses, WriteRefused}
-use Rattle.demands.specs.Refused.{bad-first-line, bad-line, bad-record, bad-text, fates-too-small, listing-too-long, none-enough, order-too-small, other-model, out-of-range, text-too-long}
+use Rattle.demands.specs.Refused.{bad-budget, bad-first-line, bad-record, bad-table, bad-text, fates-too-small, listing-too-long, none-enough, order-too-small, other-model, out-of-range, text-too-long}
 use Rattle.front.proofs.WholeText.{refused-at-line-one}
 use Rattle.front.specs.ClockLine.{firstLine, firstOf, lineOneSays}
 use Rattle.laws.proofs.Allocation.{refused-outside, refused-where-none-enough}
 use Rattle.laws.proofs.Choices.{split, split-option}
 use Rattle.laws.proofs.Tests.{within-above}
+use Rattle.grammar.proofs.BudgetBeside.{budget-refused, table-refused, taken-with}
 use Rattle.grammar.proofs.Trips.{check-exactly}
 use Rattle.planner.proofs.Decisions.{either-true, room, too-small}
 use Rattle.rules.specs.Answers.{Answer, ReadAnswer, refused}
 use Rattle.rules.specs.Costs.{suppliedCosts}
 use Rattle.rules.specs.Cycles.{allocated, allocation, askedInRange, enough, leastFrom}
 use Rattle.rules.specs.Lists.{within}
-use Rattle.rules.specs.Listing.{listing, listingOf}
-use Rattle.rules.specs.Plan.{AfterPlanning, leavesAll, leavesOf, leavesPlan, partOf, planningOfUpTo, tooSmall, tooSmallUpTo, planningOf}
+use Rattle.rules.specs.Listing.{listedWith, listing, listingOf, listingWith}
+use Rattle.rules.specs.Plan.{AfterPlanning, leavesAll, leavesOf, leavesPlan, partOf, planningOfUpTo, planningWith, takenWith, tooSmall, tooSmallUpTo}
 use Rattle.rules.specs.Refusals.{AfterWriting, Item, Judged, Taken, accept, accepted, check, itemsIn, nothing, read, reading, readingUpTo, refusedAt, refusedFor, refusedOut, tableAnswer, tableAnswerUpTo, taken, writing, written, writtenOf}
-use Rattle.rules.specs.TableText.{linesOf, mostCycles, mostJobs, noRecords, recordsOf, tableOf, textOf}
+use Rattle.rules.specs.TableText.{isBudget, linesOf, mostCycles, mostJobs, noRecords, recordsOf, tableOf, textOf}
 use Rattle.rules.specs.declared.Refusal.{Refusal}
 use Rattle.rules.specs.declared.Table.{Table}
 
@@ -66,37 +67,50 @@ large-buffer : (buffer : List ℕ) → tooSmall buffer ≡ false → mostJobs �
 unfolding tooSmallUpTo
 large-buffer buffer h = ltb-false (length buffer) mostJobs h
 
-module _ (k : Taken) (order fates : List ℕ) where
-  left-refused : (why : Refusal) (line : ℕ) → PlanRefused k order fates why line
-      → planningOf k order fates ≡ leavesAll why line order fates
+module _ (table : Table) (budget : ℕ) (order fates : List ℕ) where
+  abbrev all : AfterPlanning
+  all = planningWith table budget order fates
+
+  refused-with-room : (why : Refusal) (line : ℕ) → HasRoom order fates → takenWith table budget ≡ refusedAt why line
+      → all ≡ leavesAll why line order fates
   unfolding planningOfUpTo leavesOf
+  refused-with-room why line large e = rw (room order (large .order-room)) (rw (room fates (large .fate-room)) (rw e))
+
+  left-refused : (why : Refusal) (line : ℕ) → PlanRefused table budget order fates why line
+      → all ≡ leavesAll why line order fates
+  unfolding planningOfUpTo
   left-refused why line (order-too-small h) = rw (too-small order h)
   left-refused why line (fates-too-small h) = rw (too-small fates h) (rw (either-true (tooSmall order)))
-  left-refused why line (bad-line large e) = rw (room order (large .order-room)) (rw (room fates (large .fate-room)) (rw e))
+  left-refused why line (bad-budget large h) = refused-with-room why line large (budget-refused table budget h)
+  left-refused why line (bad-table large h e) = refused-with-room why line large (table-refused table budget why line h e)
 
-  bad-taken-only : (r : Taken) → k ≡ r → HasRoom order fates → IsRefusal (leavesOf r order fates .answer)
-      → SomeRefusal (PlanRefused k order fates)
+  -- with room, only the budget or the table is refused
+  table-only : HasRoom order fates → isBudget budget ≡ true → (k : Taken) → check table ≡ k
+      → IsRefusal (leavesOf (takenWith table budget) order fates .answer) → SomeRefusal (PlanRefused table budget order fates)
   unfolding leavesOf leavesPlan
-  bad-taken-only (taken t) e large r = absurd (r refl)
-  bad-taken-only (refusedAt why line) e large r = (why, line, bad-line large e)
+  table-only large h (taken t) e r = absurd (rw (taken-with table budget t h e) at r refl)
+  table-only large h (refusedAt why line) e r = (why, line, bad-table large h e)
 
-  refused-only : IsRefusal (planningOf k order fates .answer) → SomeRefusal (PlanRefused k order fates)
+  taken-only : HasRoom order fates → IsRefusal (leavesOf (takenWith table budget) order fates .answer)
+      → SomeRefusal (PlanRefused table budget order fates)
+  taken-only large r =
+      split (isBudget budget) (λ h. table-only large h (check table) refl r) (λ h. (Refusal.Range, 1, bad-budget large h))
+
+  refused-only : IsRefusal (all .answer) → SomeRefusal (PlanRefused table budget order fates)
   unfolding planningOfUpTo
   refused-only r =
       split (tooSmall order)
       (λ h. (Refusal.Room, 0, order-too-small (small-buffer order h)))
       (λ h. split (tooSmall fates)
       (λ g. (Refusal.Room, 0, fates-too-small (small-buffer fates g)))
-      (λ g. bad-taken-only k refl (record { order-room = large-buffer order h; fate-room = large-buffer fates g })
+      (λ g. taken-only (record { order-room = large-buffer order h; fate-room = large-buffer fates g })
       (rw g at (rw h at r))))
 
-  pub planning-refuses : Refuses (PlanRefused k order fates) (planningOf k order fates .answer) (0 ∷ 0 ∷ 0 ∷ [])
-      ((planningOf k order fates .order ≡ order)
-      × (planningOf k order fates .fates ≡ fates)
-      × (partOf (planningOf k order fates) ≡ []))
+  pub planning-refuses : Refuses (PlanRefused table budget order fates) (all .answer) (0 ∷ 0 ∷ 0 ∷ [])
+      ((all .order ≡ order) × (all .fates ≡ fates) × (partOf all ≡ []))
   unfolding leavesAll partOf
   planning-refuses =
-      refuses-by (λ (a : AfterPlanning). a .answer) (planningOf k order fates) (λ why line. leavesAll why line order fates)
+      refuses-by (λ (a : AfterPlanning). a .answer) all (λ why line. leavesAll why line order fates)
       (λ why line. refl) left-refused refused-only
       (λ why line e. (ap (λ (a : AfterPlanning). a .order) e, ap (λ (a : AfterPlanning). a .fates) e, ap partOf e))
 
@@ -115,16 +129,28 @@ module _ (text out : List ℕ) where
 abbrev leftOut : List ℕ → Refusal → ℕ → AfterWriting
 leftOut out why line = refusedOut why line out
 
-pub listing-refuses : (text out : List ℕ)
-    → Refuses (ListRefused text out) (listing text out .answer) (0 ∷ []) (listing text out .out ≡ out)
-unfolding listing refusedOut
-listing-refuses text out =
-    refuses-by (λ (a : AfterWriting). a .answer) (listing text out) (leftOut out) (λ why line. refl) left
-    (λ r. (Refusal.Room, 0, listing-too-long (no-room-only (listingOf text) out r)))
+-- a listing, of a text alone or with a budget beside it
+lines-refuse : (lines out : List ℕ)
+    → Refuses (ListRefused lines out) (written lines out .answer) (0 ∷ []) (written lines out .out ≡ out)
+unfolding refusedOut
+lines-refuse lines out =
+    refuses-by (λ (a : AfterWriting). a .answer) (written lines out) (leftOut out) (λ why line. refl) left
+    (λ r. (Refusal.Room, 0, listing-too-long (no-room-only lines out r)))
     (λ why line e. ap (λ (a : AfterWriting). a .out) e)
   where
-    left : (why : Refusal) (line : ℕ) → ListRefused text out why line → listing text out ≡ refusedOut why line out
-    left why line (listing-too-long h) = no-room-left (listingOf text) out h
+    left : (why : Refusal) (line : ℕ) → ListRefused lines out why line → written lines out ≡ refusedOut why line out
+    left why line (listing-too-long h) = no-room-left lines out h
+
+pub listing-refuses : (text out : List ℕ)
+    → Refuses (ListRefused (listingOf text) out) (listing text out .answer) (0 ∷ []) (listing text out .out ≡ out)
+unfolding listing
+listing-refuses text out = lines-refuse (listingOf text) out
+
+pub listing-with-refuses : (text : List ℕ) (budget : ℕ) (out : List ℕ)
+    → Refuses (ListRefused (listedWith text budget) out) (listingWith text budget out .answer) (0 ∷ [])
+    (listingWith text budget out .out ≡ out)
+unfolding listingWith
+listing-with-refuses text budget out = lines-refuse (listedWith text budget) out
 
 module _ (t : Table) (out : List ℕ) where
   write-left : (why : Refusal) (line : ℕ) → WriteRefused t out why line → writing t out ≡ refusedOut why line out

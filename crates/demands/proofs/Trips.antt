@@ -1,32 +1,24 @@
 -- Both round trips of demand 2 over the calls. Each law speaks of any answer that a call's promise allows, and so of the
 -- answer that the call gives. Assumes nothing.
 use mathlib.Core.List.{List}
-use mathlib.Core.Path.{_≡_, refl, sym, ap, _∙_}
+use mathlib.Core.Path.{_≡_, sym, ap, _∙_}
 use Prim.Native.Nat.{ℕ, _≤_}
 use contract.Lifetimes.{Lfts}
 use denote.Ref.{RefT}
 use lib.ListN.{length, take}
 use Rattle.demands.specs.Trips.{SameTable, SameText}
+use Rattle.grammar.proofs.Readings.{reading-done}
 use Rattle.grammar.proofs.Trips.{WrittenBack, read-exactly, read-text, table-checked, table-records, written-back, written-read-again}
-use Rattle.laws.proofs.Unique.{reading-unique, refusal-not-0, written-unique}
+use Rattle.laws.proofs.Unique.{reading-unique, written-unique}
 use Rattle.reader.proofs.Unique.{Promised as Reads}
-use Rattle.rules.specs.Answers.{ReadAnswer, readingSays, writtenSays}
-use Rattle.rules.specs.Refusals.{Taken, check, read, reading, readingUpTo, refusedAt, tableAnswer, tableAnswerUpTo, taken, writing}
+use Rattle.rules.specs.Answers.{writtenSays}
+use Rattle.rules.specs.Refusals.{check, read, readingUpTo, tableAnswerUpTo, taken, writing}
 use Rattle.rules.specs.TableText.{Records, recordsOf, tableOf, textOf}
 use Rattle.rules.specs.declared.Reading.{Reading}
 use Rattle.rules.specs.declared.Table.{Table}
 use Rattle.rules.specs.declared.Verdict.{Verdict}
 use Rattle.rules.specs.declared.Written.{Written}
 use Rattle.writer.proofs.Unique.{Promised as Writes}
-
--- a reading that is done is the table of the records that the rules take
-done-taken : (text : List ℕ) (table : Table) (k : Taken) → read text ≡ k
-    → readingSays (record { verdict = Verdict.Done; table = table }) ≡ tableAnswer k
-    → (r : Records) × (read text ≡ taken r) × (table ≡ tableOf r)
-unfolding tableAnswerUpTo
-done-taken text table (taken r) e q = (r, e, ap (λ (a : ReadAnswer). a .table) q)
-done-taken text table (refusedAt why line) e q =
-    absurd (refusal-not-0 why (sym (ap (λ (a : ReadAnswer). a .answer .number) q)))
 
 same-text : (text out after : List ℕ) (table : Table) (w : Written)
     → (r : Records) × (read text ≡ taken r) × (table ≡ tableOf r)
@@ -47,9 +39,8 @@ module _ (lifetime lifetime' : Lfts 1) where
   pub text-again : (text : RefT (List ℕ)) (r : Reading) → Reads lifetime text r → r .verdict ≡ Verdict.Done
       → (out after : RefT (List ℕ)) (w : Written) → Writes lifetime' (r .table) out w after → length (text .now) ≤ length (out .now)
       → SameText (text .now) (out .now) (after .now) w
-  unfolding readingUpTo
   text-again text r read-it done out after w written-it room =
-      let found = done-taken (text .now) (r .table) (read (text .now)) refl (rw done at read-it) in
+      let found = reading-done (text .now) r read-it done in
       same-text (text .now) (out .now) (after .now) (r .table) w found (written-it .answer) (written-it .buffer) room
 
   -- Demand 2: what `write` put at the front of the buffer, handed to `read`.

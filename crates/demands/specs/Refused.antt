@@ -8,9 +8,8 @@ use lib.ListN.{length}
 use Rattle.demands.specs.Plans.{HasRoom}
 use Rattle.rules.specs.Answers.{Answer, refused}
 use Rattle.rules.specs.Cycles.{askedInRange, enough}
-use Rattle.rules.specs.Listing.{listingOf}
-use Rattle.rules.specs.Refusals.{check, read, refusedAt, Taken}
-use Rattle.rules.specs.TableText.{mostCycles, mostJobs, recordsOf, textOf}
+use Rattle.rules.specs.Refusals.{check, read, refusedAt}
+use Rattle.rules.specs.TableText.{isBudget, mostCycles, mostJobs, recordsOf, textOf}
 use Rattle.rules.specs.Valid.{Valid, WithinPlaces}
 use Rattle.rules.specs.declared.Refusal.{Refusal}
 use Rattle.rules.specs.declared.Table.{Table}
@@ -33,16 +32,18 @@ pub record Refuses (Given : Refusal → ℕ → Type 0) (says : Answer) (values 
 abbrev pub NothingLent : Type 0
 NothingLent = Unit
 
--- "before reading it looks at its two lent buffers: an order buffer or a fate buffer of fewer than 64 places is refused 8
--- with line 0"; then "the first bad line decides"
-pub data PlanRefused (k : Taken) (order fates : List ℕ) : Refusal → ℕ → Type 0 where
-  order-too-small : length order < mostJobs → PlanRefused k order fates Refusal.Room 0
-  fates-too-small : length fates < mostJobs → PlanRefused k order fates Refusal.Room 0
-  bad-line : {why : Refusal} {line : ℕ} → HasRoom order fates → k ≡ refusedAt why line → PlanRefused k order fates why line
+-- "an order buffer or a fate buffer of fewer than 64 places is refused 8 with line 0"; "2 for the budget, line 1, after 8 and before
+-- the table's own"; the table "as the writer" checks it, with the writer's lines
+pub data PlanRefused (table : Table) (budget : ℕ) (order fates : List ℕ) : Refusal → ℕ → Type 0 where
+  order-too-small : length order < mostJobs → PlanRefused table budget order fates Refusal.Room 0
+  fates-too-small : length fates < mostJobs → PlanRefused table budget order fates Refusal.Room 0
+  bad-budget : HasRoom order fates → isBudget budget ≡ false → PlanRefused table budget order fates Refusal.Range 1
+  bad-table : {why : Refusal} {line : ℕ} → HasRoom order fates → isBudget budget ≡ true → check table ≡ refusedAt why line
+      → PlanRefused table budget order fates why line
 
--- 8: the listing is longer than the lent buffer. A refused text is a success: its R line.
-pub data ListRefused (text out : List ℕ) : Refusal → ℕ → Type 0 where
-  listing-too-long : length out < length (listingOf text) → ListRefused text out Refusal.Room 0
+-- 8: the listing is longer than the lent buffer. A refused text, or a budget beside it that is refused, is a success: its R line.
+pub data ListRefused (listing out : List ℕ) : Refusal → ℕ → Type 0 where
+  listing-too-long : length out < length listing → ListRefused listing out Refusal.Room 0
 
 -- "checks the records first (2 to 7, with the line the record would have had) and then room (8, line 0)"
 pub data WriteRefused (t : Table) (out : List ℕ) : Refusal → ℕ → Type 0 where

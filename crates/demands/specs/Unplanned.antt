@@ -9,14 +9,15 @@ use Rattle.rules.specs.Answers.{Answer}
 use Rattle.rules.specs.Listing.{fateLine, orderLine, planLine, unplanned}
 use Rattle.rules.specs.Lists.{Each, joined, keep}
 use Rattle.rules.specs.Plan.{Fated, planOf, runsOf}
-use Rattle.rules.specs.Refusals.{read, taken}
+use Rattle.rules.specs.Refusals.{Taken, taken}
 use Rattle.rules.specs.TableText.{Records, noJob, nth}
 
 -- "two valid tables that agree in every job outside some set .. in neither table a job outside the set asks for a resource that
--- a job inside holds": the tables that two texts are read as
-pub record TextsAgree (set : ℕ → Bool) (text text* : List ℕ) (a b : Records) : Type 0 where
-  pub read-first : read text ≡ taken a
-  pub read-second : read text* ≡ taken b
+-- a job inside holds": the records that were taken of two tables, by their check, or of two texts, by reading them. "In demand 3
+-- the budget is the one given beside the table": their own may differ.
+pub record BothAgree (set : ℕ → Bool) (k k* : Taken) (a b : Records) : Type 0 where
+  pub first : k ≡ taken a
+  pub second : k* ≡ taken b
   pub agree : Agree set a b
   pub first-asks : NoneAsksInside set a
   pub second-asks : NoneAsksInside set b

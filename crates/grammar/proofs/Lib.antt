@@ -13,5 +13,7 @@ pub mod Stopped
 pub mod Accepted
 mod Written
 pub mod Trips
+pub mod Readings
+pub mod BudgetBeside
 pub mod Longest
 pub mod Tables

@@ -4,4 +4,5 @@ mod Unplanned
 mod PlanTexts
 pub mod LongestListing
 mod Listed
+mod ReadTables
 pub mod Unique

@@ -12,6 +12,7 @@ use native.Mathlib.Omega.{arith}
 use borrow.Author.Tests.{ltb-false, ltb-true}
 use lib.Dec.{eqb, ltb}
 use lib.ListN.{length, length-append}
+use Rattle.grammar.proofs.BudgetBeside.{valid-at}
 use Rattle.grammar.proofs.Accepted.{Reachable, clock-read, nothing-read, reached-standing, taken-exactly, valid}
 use Rattle.laws.proofs.Choices.{split}
 use Rattle.laws.proofs.Costs.{rounded-up-enough}
@@ -32,11 +33,11 @@ use Rattle.grammar.proofs.Trips.{valid-few-holds, text-read}
 use Rattle.rules.specs.Answers.{numberOf}
 use Rattle.rules.specs.Case.{right}
 use Rattle.rules.specs.Costs.{roundedUp}
-use Rattle.rules.specs.Listing.{fateLine, finish, letterO, letterP, letterR, letterX, linesFor, listingOf, orderLine, planLine, planLines, unplanned}
+use Rattle.rules.specs.Listing.{fateLine, finish, letterO, letterP, letterR, letterX, linesFor, listedWith, listingOf, orderLine, planLine, planLines, unplanned}
 use Rattle.rules.specs.Lists.{Each, joined, keep, none-left, _and_}
-use Rattle.rules.specs.Plan.{Fated, Run, cyclesOf, energyAt, fatePlanned, fatesOf, planFrom, planOf, runsFrom, runsOf}
+use Rattle.rules.specs.Plan.{Fated, Run, atBudget, cyclesOf, energyAt, fatePlanned, fatesOf, planFrom, planOf, runsFrom, runsOf}
 use Rattle.rules.specs.Refusals.{Before, Item, Taken, nothing, one, read, readUpTo, refusedAt, taken, itemsIn, takeFrom}
-use Rattle.rules.specs.TableText.{Record, Records, inRange, isCycles, isJobNumber, isRequest, isTime, isWorth, lineText, lined, linesOf, mostCycles, mostJobs, textOf, digitsOf, digitsWithin, mostHolds, mostSpeeds, mostMhz, mostTime, mostCost}
+use Rattle.rules.specs.TableText.{Record, Records, inRange, isBudget, isCycles, isJobNumber, isRequest, isTime, isWorth, lineText, lined, linesOf, mostCycles, mostJobs, textOf, digitsOf, digitsWithin, mostHolds, mostSpeeds, mostMhz, mostTime, mostCost, withBudget}
 use Rattle.rules.specs.Valid.{Valid}
 use Rattle.rules.specs.declared.Job.{Job}
 use Rattle.rules.specs.declared.Refusal.{Refusal}
@@ -296,15 +297,33 @@ taken-valid : (text : List ℕ) (t : Records) → read text ≡ taken t → Vali
 unfolding readUpTo
 taken-valid text t e = taken-exactly 1 (itemsIn (linesOf text)) t .0 e .0
 
--- Whatever the text, the listing has no more bytes.
+longest-plan : (t : Records) → Valid t → length (linesFor (taken t)) ≤ mostListed
+unfolding linesFor
+longest-plan t v = longest-plan-lines t v
+
+longest-refusal : (why : Refusal) (line : ℕ) → line ≤ suc mostLines → length (linesFor (refusedAt why line)) ≤ mostListed
+unfolding linesFor
+longest-refusal why line h = omega (arith, refusal-line-length (numberOf why) line (refusal-number why) h)
+
+-- Whatever the text, and whatever the budget beside it, the listing has no more bytes.
 pub longest-listing : (text : List ℕ) → length (listingOf text) ≤ mostListed
-unfolding listingOf linesFor
+unfolding listingOf
 longest-listing text = go (read text) refl
   where
     go : (answer : Taken) → read text ≡ answer → length (linesFor answer) ≤ mostListed
-    go (taken t) e = longest-plan-lines t (taken-valid text t e)
-    go (refusedAt why line) e =
-        omega (arith, refusal-line-length (numberOf why) line (refusal-number why) (refused-by-last-line text why line e))
+    go (taken t) e = longest-plan t (taken-valid text t e)
+    go (refusedAt why line) e = longest-refusal why line (refused-by-last-line text why line e)
+
+pub longest-with-budget : (text : List ℕ) (budget : ℕ) → length (listedWith text budget) ≤ mostListed
+unfolding listedWith atBudget
+longest-with-budget text budget = go (read text) refl
+  where
+    go : (answer : Taken) → read text ≡ answer → length (linesFor (atBudget budget answer)) ≤ mostListed
+    go (taken t) e =
+        split (isBudget budget)
+        (λ h. rw h (longest-plan (withBudget t budget) (valid-at (taken-valid text t e) budget h)))
+        (λ h. rw h (longest-refusal Refusal.Range 1 (omega arith)))
+    go (refusedAt why line) e = longest-refusal why line (refused-by-last-line text why line e)
 
 -- A table whose listing has as many: its last four jobs have one cycle each, which take up the last millisecond there is, and the
 -- others share the cycles that they may have, or that the budget leaves them.

@@ -2,6 +2,7 @@
 use columns::columns_of;
 use plans::decide;
 use reader::read;
+use records::budget_in_range;
 use rules::FATE_PLANNED;
 use rules::MOST_JOBS;
 use rules::Refusal;
@@ -18,10 +19,9 @@ ghost use Rattle.listing.specs.Promises.{FateRows, Finishable, OrderRows
 ghost use Rattle.listing.specs.Texts.{mostRowNumbers, planText, refusalText};
 ghost use Rattle.rules.specs.Costs.{roundedUp};
 ghost use Rattle.plans.specs.Promises.{Plannable};
-ghost use Rattle.rules.specs.Listing.{linesFor, listing, planLines};
-ghost use Rattle.rules.specs.Plan.{planOf};
-ghost use Rattle.rules.specs.Refusals.{refusedAt, written};
-ghost use Rattle.rules.specs.TableText.{mostJobs, recordsOf};
+ghost use Rattle.rules.specs.Listing.{linesFor, listing, listingWith};
+ghost use Rattle.rules.specs.Refusals.{refusedAt, taken, written};
+ghost use Rattle.rules.specs.TableText.{mostJobs, recordsOf, withBudget};
 
 // The O lines and the X lines have two numbers each, and there is one line for each job.
 const ROW_FIELDS: usize = 2;
@@ -145,18 +145,46 @@ fn put_refusal(out: &mut [u8], number: u64, line: u64) -> usize
     digits::put_line(out, 0, b'R', &numbers)
 }
 
-// The listing of a valid table, where there is room for it.
-fn list_plan(table: Table, out: &mut [u8]) -> Written
-    requires { ⌜ Plannable table ⌝ }
-    ensures { λ r. ⌜ wrote r (now (out .exit)) ≡ written (planLines (recordsOf table .clock) (planOf (recordsOf table))) (now (out .entry)) ⌝ }
+// A plan's lines, where there is room for them.
+fn list_rows<'a>(
+    speed: u64,
+    energy: u64,
+    count: usize,
+    orders: &'a [u64],
+    others: &'a [u64],
+    out: &mut [u8],
+) -> Written
+    requires { ⌜ (length (now orders) ≤ mostRowNumbers) × (length (now others) ≤ mostRowNumbers) ⌝ }
+    ensures { λ r. ⌜ wrote r (now (out .exit)) ≡ written (planText speed energy count (now (orders .entry)) (now (others .entry))) (now (out .entry)) ⌝ }
+{
+    if out.len() < listing_length(speed, energy, count, orders, others) {
+        return Written::Refused(Refusal::Room, 0);
+    }
+    Written::Length(put_listing(out, speed, energy, count, orders, others))
+}
+
+// The listing of a valid table, with the budget beside it, where there is room for it.
+fn list_plan(table: Table, budget: u64, out: &mut [u8]) -> Written
+    requires { ⌜ Plannable table budget ⌝ }
+    ensures { λ r. ⌜ wrote r (now (out .exit)) ≡ written (linesFor (taken (withBudget (recordsOf table) budget))) (now (out .entry)) ⌝ }
 {
     let columns = columns_of(table);
-    let decided = decide(table, columns);
+    let speeds = table.speeds;
+    let holds = table.holds;
+    let decided = decide(
+        table.clock,
+        budget,
+        speeds,
+        table.speed_count,
+        holds,
+        table.hold_count,
+        table.job_count,
+        columns,
+    );
     let places = decided.places;
     let fates = decided.fates;
     let count = decided.count;
     let mhz = decided.speed.mhz;
-    let energy = decided.energy;
     let mut orders = [0; MOST_ROW_NUMBERS];
     let order_end = order_rows(
         &places[..count],
@@ -168,24 +196,14 @@ fn list_plan(table: Table, out: &mut [u8]) -> Written
     );
     let mut others = [0; MOST_ROW_NUMBERS];
     let other_end = fate_rows(&columns.number, &fates, table.job_count, &mut others);
-    let length = listing_length(
+    list_rows(
         mhz,
-        energy,
+        decided.energy,
         count,
         &orders[..order_end],
         &others[..other_end],
-    );
-    if out.len() < length {
-        return Written::Refused(Refusal::Room, 0);
-    }
-    Written::Length(put_listing(
         out,
-        mhz,
-        energy,
-        count,
-        &orders[..order_end],
-        &others[..other_end],
-    ))
+    )
 }
 
 // The one line of a refusal, where there is room for it.
@@ -199,8 +217,8 @@ fn list_refusal(why: Refusal, line: u64, out: &mut [u8]) -> Written
     Written::Length(put_refusal(out, number, line))
 }
 
-// What the program prints for a text, at the front of a lent buffer, and its length; or else nothing is changed, and the
-// answer is that there is no room.
+// What the program prints for a text, with the text's own budget, at the front of a lent buffer, and its length; or else nothing
+// is changed, and the answer is that there is no room.
 pub fn list(text: &[u8], out: &mut [u8]) -> Written
     ensures { λ r. ⌜ wrote r (now (out .exit)) ≡ listing (now (text .entry)) (now (out .entry)) ⌝ }
 {
@@ -210,5 +228,21 @@ pub fn list(text: &[u8], out: &mut [u8]) -> Written
         return list_refusal(why, line, out);
     }
     let table = reading.table;
-    list_plan(table, out)
+    list_plan(table, table.budget, out)
+}
+
+// The same with a budget beside the text: the text's own refusal first, then that of the budget.
+pub fn list_with_budget(text: &[u8], budget: u64, out: &mut [u8]) -> Written
+    ensures { λ r. ⌜ wrote r (now (out .exit)) ≡ listingWith (now (text .entry)) budget (now (out .entry)) ⌝ }
+{
+    let reading = read(text);
+    let verdict = reading.verdict;
+    if let Verdict::Refused(why, line) = verdict {
+        return list_refusal(why, line, out);
+    }
+    if !budget_in_range(budget) {
+        return list_refusal(Refusal::Range, 1, out);
+    }
+    let table = reading.table;
+    list_plan(table, budget, out)
 }

@@ -1,4 +1,4 @@
--- The three ways of `plan_into`: a buffer too small, a refusal, records planned. Each is the rules'. Assumes nothing.
+-- The ways of `plan_into`: a buffer too small, a refusal, records planned. Each is the rules'. Assumes nothing.
 use mathlib.Core.Bool.{Bool, true, false, _||_}
 use mathlib.Core.List.{List}
 use mathlib.Core.Path.{_≡_, refl, sym, ap, _∙_}

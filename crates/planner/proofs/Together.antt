@@ -11,10 +11,10 @@ use Rattle.handing.specs.Promises.{HandedBack, plannedCount}
 use Rattle.planner.specs.Promises.{Together}
 use Rattle.planner.proofs.Answers.{part-of-leaves}
 use Rattle.planner.proofs.Unique.{Promised}
-use Rattle.rules.specs.Plan.{AfterPlanning, partOf}
+use Rattle.rules.specs.Plan.{AfterPlanning, partOf, takenWith}
 use Rattle.rules.specs.declared.Decision.{Decision}
 use Rattle.rules.specs.declared.Refusal.{Refusal}
-use Rattle.rules.specs.Refusals.{read}
+use Rattle.rules.specs.declared.Table.{Table}
 
 -- a front part and what stands behind it are the list
 front-and-behind : (n : ℕ) (xs : List ℕ) → take n xs ++ drop (length (take n xs)) xs ≡ xs
@@ -22,11 +22,11 @@ front-and-behind zero xs = refl
 front-and-behind (suc n) [] = refl
 front-and-behind (suc n) (x ∷ xs) = ap (λ (r : List ℕ). x ∷ r) (front-and-behind n xs)
 
-pub plan-into-then-hand-back : (lifetimes : Lfts 3) (text order fates order′ fates′ : RefT (List ℕ)) (d : Decision)
-    (begin at : ℕ × ℕ) (part : List ℕ) → Promised lifetimes text order fates d order′ fates′
+pub plan-into-then-hand-back : (lifetimes : Lfts 2) (table : Table) (budget : ℕ) (order fates order′ fates′ : RefT (List ℕ))
+    (d : Decision) (begin at : ℕ × ℕ) (part : List ℕ) → Promised lifetimes table budget order fates d order′ fates′
     → HandedBack (order′ .now) begin d part at
-    → Together (read (text .now)) (order .now) (fates .now) begin (order′ .now) part at
-plan-into-then-hand-back lifetimes text order fates order′ fates′ d begin at part promised handed = record {
+    → Together (takenWith table budget) (order .now) (fates .now) begin (order′ .now) part at
+plan-into-then-hand-back lifetimes table budget order fates order′ fates′ d begin at part promised handed = record {
   part-is = handed .part-is ∙ part-of-leaves d (order′ .now) (fates′ .now) ∙ ap partOf promised;
   begins = handed .begins;
   every-place = rw (handed .part-is) (front-and-behind (plannedCount d) (order′ .now)) ∙ ap (λ (a : AfterPlanning). a .order) promised;

@@ -18,29 +18,30 @@ use Rattle.planner.proofs.plan as plan
 use Rattle.planner.proofs.plan_into.Reads.{Learnt}
 use Rattle.planner.specs.Promises.{PlannedAs}
 use Rattle.planner.specs.declared.Planned.{Planned}
-use Rattle.rules.specs.Plan.{AfterPlanning}
+use Rattle.rules.specs.Plan.{AfterPlanning, takenWith}
 use Rattle.rules.specs.declared.Decision.{Decision}
-use Rattle.rules.specs.Refusals.{read}
+use Rattle.rules.specs.declared.Table.{Table}
 
 -- what the promise of `plan_into` tells a caller of a decision and the lent buffers behind the call
-abbrev pub Promised : Lfts 3 → (text order fates : RefT (List ℕ)) → Decision → (order′ fates′ : RefT (List ℕ)) → Type 0
-Promised lifetimes text order fates r order′ fates′ =
-    Learnt lifetimes (text, (order, (fates, tt))) r (text, (order′, (fates′, tt)))
+abbrev pub Promised : Lfts 2 → Table → (budget : ℕ) → (order fates : RefT (List ℕ)) → Decision → (order′ fates′ : RefT (List ℕ))
+    → Type 0
+Promised lifetimes table budget order fates r order′ fates′ =
+    Learnt lifetimes (table, (budget, (order, (fates, tt)))) r (table, (budget, (order′, (fates′, tt))))
 
-pub unique-into : (lifetimes : Lfts 3) (text order fates a b a′ b′ : RefT (List ℕ)) (r s : Decision)
-    → Promised lifetimes text order fates r a b → Promised lifetimes text order fates s a′ b′
+pub unique-into : (lifetimes : Lfts 2) (table : Table) (budget : ℕ) (order fates a b a′ b′ : RefT (List ℕ)) (r s : Decision)
+    → Promised lifetimes table budget order fates r a b → Promised lifetimes table budget order fates s a′ b′
     → (r ≡ s) × (a .now ≡ a′ .now) × (b .now ≡ b′ .now)
-unique-into lifetimes text order fates a b a′ b′ r s p q =
+unique-into lifetimes table budget order fates a b a′ b′ r s p q =
     let same = p ∙ sym q in (
       decision-unique r s (ap (λ (told : AfterPlanning). told .answer) same),
       ap (λ (told : AfterPlanning). told .order) same,
       ap (λ (told : AfterPlanning). told .fates) same,
     )
 
-pub unique-plan : (text order fates : List ℕ) (begin : ℕ × ℕ) (r s : Planned) (b b′ : List ℕ)
-    → PlannedAs (read text) order fates begin r b → PlannedAs (read text) order fates begin s b′
+pub unique-plan : (table : Table) (budget : ℕ) (order fates : List ℕ) (begin : ℕ × ℕ) (r s : Planned) (b b′ : List ℕ)
+    → PlannedAs (takenWith table budget) order fates begin r b → PlannedAs (takenWith table budget) order fates begin s b′
     → (now (r .plan) ≡ now (s .plan)) × (ptr (r .plan) ≡ ptr (s .plan)) × (r .decision ≡ s .decision) × (b ≡ b′)
-unique-plan text order fates begin r s b b′ p q = (
+unique-plan table budget order fates begin r s b b′ p q = (
   p .plan ∙ sym (q .plan),
   p .begins ∙ sym (q .begins),
   decision-unique (r .decision) (s .decision) (p .decided ∙ sym (q .decided)),
@@ -48,8 +49,8 @@ unique-plan text order fates begin r s b b′ p q = (
 )
 
 -- the contract of `plan` is that record
-module _ {M : Type 1} (𝓤 : URA M) (H : Heap 𝓤) (A : Atoms 𝓤) (mem : Memory → SProp 𝓤) (run : Routine → Fun 𝓤) (κs : Lfts 3) where
-  pub plan-says : (text order fates fates′ : RefT (List ℕ)) (spent : Gone) (r : Planned)
-      → plan.clauses 𝓤 H A mem run κs (text, (order, (fates, tt))) .ensures tt r (text, (spent, (fates′, tt)))
-      ≡ fact 𝓤 (PlannedAs (read (now text)) (now order) (now fates) (ptr order) r (now fates′))
-  plan-says text order fates fates′ spent r = refl
+module _ {M : Type 1} (𝓤 : URA M) (H : Heap 𝓤) (A : Atoms 𝓤) (mem : Memory → SProp 𝓤) (run : Routine → Fun 𝓤) (κs : Lfts 2) where
+  pub plan-says : (table : Table) (budget : ℕ) (order fates fates′ : RefT (List ℕ)) (spent : Gone) (r : Planned)
+      → plan.clauses 𝓤 H A mem run κs (table, (budget, (order, (fates, tt)))) .ensures tt r (table, (budget, (spent, (fates′, tt))))
+      ≡ fact 𝓤 (PlannedAs (takenWith table budget) (now order) (now fates) (ptr order) r (now fates′))
+  plan-says table budget order fates fates′ spent r = refl

@@ -1,4 +1,4 @@
--- What the planner promises, of what was taken: the records of a text or its refusal.
+-- What the planner promises, of what was taken: the records of a table with the budget beside it, or the refusal.
 use mathlib.Core.List.{List, _++_}
 use mathlib.Core.Path.{_≡_}
 use Prim.Native.Nat.{ℕ}

@@ -13,11 +13,12 @@ use Rattle.columns.specs.declared.Columns.{Columns}
 use Rattle.columns.specs.declared.Terms.{Terms}
 use Rattle.laws.proofs.Elements.{each-at-place}
 use Rattle.grammar.proofs.Ranges.{SpeedRanges, clock-ranges, hold-ranges, speed-ranges}
-use Rattle.plans.specs.Promises.{Concludable, PlacesOfJobs, Plannable, CourseRunnable}
+use Rattle.plans.specs.Promises.{Concludable, CourseRunnable, DecidedAs, PlacesOfJobs, Plannable, PlannableBy}
 use Rattle.plans.specs.declared.CourseTaken.{CourseTaken}
+use Rattle.plans.specs.declared.Decided.{Decided}
 use Rattle.rules.specs.Lists.{Each, lastOr}
 use Rattle.rules.specs.Plan.{topOf}
-use Rattle.rules.specs.TableText.{Record, inRange, mostHolds, mostJobs, mostSpeeds, noHold, noSpeed, recordsOf}
+use Rattle.rules.specs.TableText.{Record, inRange, mostHolds, mostJobs, mostSpeeds, noHold, noSpeed, recordsOf, tableWithBudget, withBudget}
 use Rattle.rules.specs.declared.Speed.{Speed}
 use Rattle.rules.specs.declared.Table.{Table}
 
@@ -40,14 +41,14 @@ module _ {A : Type 0} where
   each-of-first {P} d xs n l e i h =
       rw (sym (getD-take n xs i d h)) (each-at-place {P = P} d e i (omega (arith, length-take-le n xs l)))
 
-module _ (table : Table) (p : Plannable table) (all-speeds : length (table .speeds) ≡ mostSpeeds) where
+module _ (table : Table) (budget : ℕ) (p : Plannable table budget) (all-speeds : length (table .speeds) ≡ mostSpeeds) where
   abbrev top : Speed
   top = getD (table .speeds) (table .«speed_count» - 1) noSpeed
 
   abbrev terms : Terms
   terms = record {
     clock = table .clock;
-    budget = table .budget;
+    budget = budget;
     mhz = top .mhz;
     cost = top .cost;
     «job_count» = table .«job_count»;
@@ -64,8 +65,8 @@ module _ (table : Table) (p : Plannable table) (all-speeds : length (table .spee
   top-is-last =
       last-of-first noSpeed (table .speeds) (table .«speed_count») some-speed (omega (arith, p .few-speeds, all-speeds))
 
-  pub terms-of-table : length (table .jobs) ≡ mostJobs → TermsOf (recordsOf table) terms
-  unfolding recordsOf
+  pub terms-of-table : length (table .jobs) ≡ mostJobs → TermsOf (withBudget (recordsOf table) budget) terms
+  unfolding recordsOf topOf
   terms-of-table all-jobs = record {
     clock = refl;
     budget = refl;
@@ -87,7 +88,7 @@ module _ (table : Table) (p : Plannable table) (all-speeds : length (table .spee
   terms-in-range =
       let last = speed-in-range (table .«speed_count» - 1) (omega (arith, some-speed)) in
       record {
-        clock = clock-ranges (table .clock) (table .budget) (p .valid .clock-range) .0;
+        clock = clock-ranges (table .clock) budget (p .valid .clock-range) .0;
         mhz = last .mhz-to;
         cost = last .cost-to;
         job-count = p .few-jobs;
@@ -129,9 +130,25 @@ module _ (table : Table) (p : Plannable table) (all-speeds : length (table .spee
       terms-small = terms-in-range;
     }
 
+-- a table that can be planned with a budget, with that budget in its T
+pub by-its-parts : (table : Table) (budget : ℕ) (columns : Columns) → Plannable table budget → length (table .jobs) ≡ mostJobs
+    → ColumnsOf (recordsOf table .jobs) columns → PlannableBy (tableWithBudget table budget) columns
+unfolding recordsOf
+by-its-parts table budget columns p all of = record {
+  whole = all;
+  plannable = record { valid = p .valid; few-speeds = p .few-speeds; few-jobs = p .few-jobs; few-holds = p .few-holds };
+  columns-of = of;
+}
+
+-- what is decided for it is the plan with the budget beside the table
+pub decided-beside : (table : Table) (budget : ℕ) (d : Decided) → DecidedAs (recordsOf (tableWithBudget table budget)) d
+    → DecidedAs (withBudget (recordsOf table) budget) d
+unfolding recordsOf
+decided-beside table budget d decided = decided
+
 -- in a valid table the count is that of the jobs
-pub jobs-counted : (table : Table) → length (table .jobs) ≡ mostJobs → Plannable table
+pub jobs-counted : (table : Table) (budget : ℕ) → length (table .jobs) ≡ mostJobs → Plannable table budget
     → table .«job_count» ≡ length (recordsOf table .jobs)
 unfolding recordsOf
-jobs-counted table all p =
+jobs-counted table budget all p =
     sym (length-take-le (table .«job_count») (table .jobs) (omega (arith, all, p .few-jobs)))

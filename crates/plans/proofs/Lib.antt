@@ -5,4 +5,3 @@ mod Taking
 mod Running
 pub mod Deciding
 pub mod Leaving
-pub mod Readings

@@ -2,7 +2,7 @@
 use mathlib.Core.Bool.{cond}
 use mathlib.Core.List.{List}
 use mathlib.Core.Path.{_≡_}
-use Prim.Native.Nat.{ℕ, _≤_, _<_}
+use Prim.Native.Nat.{ℕ, _-_, _≤_, _<_}
 use lib.ListN.{getD, length, take}
 use Rattle.chains.specs.Promises.{Holdable}
 use Rattle.chains.specs.Stage.{FatesSoFar}
@@ -17,10 +17,11 @@ use Rattle.plans.specs.declared.Decided.{Decided}
 use Rattle.ranks.specs.declared.Turns.{Turns}
 use Rattle.rules.specs.Answers.{decisionSays}
 use Rattle.rules.specs.Plan.{AfterPlanning, Course, chainOf, courseOf, fateIn, fatePlanned, inPlan, planOf, ratioOf, runOrder}
-use Rattle.rules.specs.TableText.{Records, mostHolds, mostJobs, mostSpeeds, recordsOf}
+use Rattle.rules.specs.TableText.{Records, mostHolds, mostJobs, mostSpeeds, noSpeed, recordsOf, withBudget}
 use Rattle.rules.specs.Valid.{Valid}
 use Rattle.rules.specs.declared.Decision.{Decision}
 use Rattle.rules.specs.declared.Hold.{Hold}
+use Rattle.rules.specs.declared.Job.{Job}
 use Rattle.rules.specs.declared.Speed.{Speed}
 use Rattle.rules.specs.declared.Table.{Table}
 use Rattle.speeds.specs.Promises.{SpeedsInRange, SpeedsOf}
@@ -112,12 +113,50 @@ pub record Concluded (speeds : List Speed) (speed-count : ℕ) (cycles terminati
   pub decided : (t : Records) → Valid t → SpeedsOf t speeds speed-count cycles termination terms
       → CourseBy t (courseOf t) course → DecidedAs t r
 
--- A valid table, no count beyond its places.
-pub record Plannable (table : Table) : Type 0 where
-  pub valid : Valid (recordsOf table)
+-- A table whose records are valid with this budget, no count beyond its places.
+pub record Plannable (table : Table) (budget : ℕ) : Type 0 where
+  pub valid : Valid (withBudget (recordsOf table) budget)
   pub few-speeds : table .«speed_count» ≤ mostSpeeds
   pub few-jobs : table .«job_count» ≤ mostJobs
   pub few-holds : table .«hold_count» ≤ mostHolds
+
+-- The clock, the budget and the top speed, which is the last F.
+abbrev pub termsBy : (clock budget : ℕ) (speeds : List Speed) (speed-count job-count : ℕ) → Terms
+termsBy clock budget speeds speed-count job-count =
+    let top = getD speeds (speed-count - 1) noSpeed in
+    record { clock = clock; budget = budget; mhz = top .mhz; cost = top .cost; «job_count» = job-count }
+
+-- A table of its parts, with the budget that it is planned with in its T.
+abbrev pub assembled : (clock budget : ℕ) (speeds : List Speed) (speed-count : ℕ) (holds : List Hold) (hold-count job-count : ℕ)
+    → List Job → Table
+assembled clock budget speeds speed-count holds hold-count job-count jobs = record {
+  clock = clock;
+  budget = budget;
+  «speed_count» = speed-count;
+  «job_count» = job-count;
+  «hold_count» = hold-count;
+  speeds = speeds;
+  jobs = jobs;
+  holds = holds;
+}
+
+-- It can be planned, and the columns are those of its jobs.
+pub record PlannableBy (table : Table) (columns : Columns) : Type 0 where
+  pub whole : length (table .jobs) ≡ mostJobs
+  pub plannable : Plannable table (table .budget)
+  pub columns-of : ColumnsOf (recordsOf table .jobs) columns
+
+-- The parts of some table that can be planned, and what is decided for each table of these parts.
+abbrev pub Decidable : (clock budget : ℕ) (speeds : List Speed) (speed-count : ℕ) (holds : List Hold) (hold-count job-count : ℕ)
+    → Columns → Type 0
+Decidable clock budget speeds speed-count holds hold-count job-count columns =
+    (jobs : List Job) × PlannableBy (assembled clock budget speeds speed-count holds hold-count job-count jobs) columns
+
+abbrev pub Decides : (clock budget : ℕ) (speeds : List Speed) (speed-count : ℕ) (holds : List Hold) (hold-count job-count : ℕ)
+    → Columns → Decided → Type 0
+Decides clock budget speeds speed-count holds hold-count job-count columns r =
+    (jobs : List Job) → PlannableBy (assembled clock budget speeds speed-count holds hold-count job-count jobs) columns
+    → DecidedAs (recordsOf (assembled clock budget speeds speed-count holds hold-count job-count jobs)) r
 
 -- the decision beside what both buffers hold
 abbrev pub leaves : Decision → List ℕ → List ℕ → AfterPlanning

@@ -24,10 +24,10 @@ use trials::turn;
 ghost use mathlib.Core.Path.{_≡_};
 ghost use Prim.Native.Nat.{_≤_};
 ghost use lib.ListN.{length};
-ghost use Rattle.columns.specs.Columns.{AllBelow, ColumnsOf};
-ghost use Rattle.plans.specs.Promises.{Concludable, Concluded, CourseRun, DecidedAs, Marked, Plannable, CourseRunnable, Takeable, TurnsTaken, besides, leaves};
+ghost use Rattle.columns.specs.Columns.{AllBelow};
+ghost use Rattle.plans.specs.Promises.{Concludable, Concluded, CourseRun, CourseRunnable, Decidable, Decides, Marked, Plannable, Takeable, TurnsTaken, besides, leaves, termsBy};
 ghost use Rattle.rules.specs.Plan.{leavesPlan, planOf};
-ghost use Rattle.rules.specs.TableText.{mostJobs, recordsOf};
+ghost use Rattle.rules.specs.TableText.{mostJobs, mostSpeeds, recordsOf, withBudget};
 ghost use Rattle.trials.specs.Promises.{columnsRead};
 
 // What the course of turns leaves: the plan's places, its totals, and the fate that each job's own turn gave.
@@ -180,23 +180,45 @@ fn conclude<'a>(
     }
 }
 
-// Steps 1 to 9 on a valid table, by its columns.
-pub fn decide(table: Table, columns: Columns) -> Decided
-    requires { ⌜ Plannable table × ColumnsOf (recordsOf table .jobs) columns ⌝ }
-    ensures { λ r. ⌜ DecidedAs (recordsOf table) r ⌝ }
+// The clock, the budget and the top speed, as the steps take them.
+fn terms_of(
+    clock: u64,
+    budget: u64,
+    speeds: [Speed; MOST_SPEEDS],
+    speed_count: usize,
+    job_count: usize,
+) -> Terms
+    requires { ⌜ (1 ≤ «speed_count») × («speed_count» ≤ mostSpeeds) ⌝ }
+    ensures { λ r. ⌜ r ≡ termsBy clock budget speeds «speed_count» «job_count» ⌝ }
 {
-    let top = table.speeds[table.speed_count - 1];
-    let terms = Terms {
-        clock: table.clock,
-        budget: table.budget,
+    let top = speeds[speed_count - 1];
+    Terms {
+        clock,
+        budget,
         mhz: top.mhz,
         cost: top.cost,
-        job_count: table.job_count,
-    };
-    let holds = table.holds;
+        job_count,
+    }
+}
+
+// Steps 1 to 9 on a valid table, by its columns and its other parts: a whole table given to a function is copied.
+pub fn decide(
+    clock: u64,
+    budget: u64,
+    speeds: [Speed; MOST_SPEEDS],
+    speed_count: usize,
+    holds: [Hold; MOST_HOLDS],
+    hold_count: usize,
+    job_count: usize,
+    columns: Columns,
+) -> Decided
+    requires { ⌜ Decidable clock budget speeds «speed_count» holds «hold_count» «job_count» columns ⌝ }
+    ensures { λ r. ⌜ Decides clock budget speeds «speed_count» holds «hold_count» «job_count» columns r ⌝ }
+{
+    let terms = terms_of(clock, budget, speeds, speed_count, job_count);
     let course = course_of(
         holds,
-        table.hold_count,
+        hold_count,
         &columns.number,
         &columns.cycles,
         &columns.worth,
@@ -205,10 +227,9 @@ pub fn decide(table: Table, columns: Columns) -> Decided
         &columns.request,
         terms,
     );
-    let speeds = table.speeds;
     conclude(
         speeds,
-        table.speed_count,
+        speed_count,
         &columns.cycles,
         &columns.termination,
         course,
@@ -216,13 +237,24 @@ pub fn decide(table: Table, columns: Columns) -> Decided
     )
 }
 
-// The planner on a valid table: the decision, and both buffers whole.
-pub fn plan_table(table: Table, order: &mut [u64], fates: &mut [u64]) -> Decision
-    requires { ⌜ Plannable table × (mostJobs ≤ length (now order)) × (mostJobs ≤ length (now fates)) ⌝ }
-    ensures { λ r. ⌜ leaves r (now (order .exit)) (now (fates .exit)) ≡ leavesPlan (planOf (recordsOf table)) (now (order .entry)) (now (fates .entry)) ⌝ }
+// The planner on a valid table, with the budget beside it: the decision, and both buffers whole.
+pub fn plan_table(table: Table, budget: u64, order: &mut [u64], fates: &mut [u64]) -> Decision
+    requires { ⌜ Plannable table budget × (mostJobs ≤ length (now order)) × (mostJobs ≤ length (now fates)) ⌝ }
+    ensures { λ r. ⌜ leaves r (now (order .exit)) (now (fates .exit)) ≡ leavesPlan (planOf (withBudget (recordsOf table) budget)) (now (order .entry)) (now (fates .entry)) ⌝ }
 {
     let columns = columns_of(table);
-    let decided = decide(table, columns);
+    let speeds = table.speeds;
+    let holds = table.holds;
+    let decided = decide(
+        table.clock,
+        budget,
+        speeds,
+        table.speed_count,
+        holds,
+        table.hold_count,
+        table.job_count,
+        columns,
+    );
     let places = decided.places;
     let by_job = decided.fates;
     put_order(order, &places[..decided.count], &columns.number);

@@ -8,7 +8,7 @@ use rules::Refusal;
 use rules::Speed;
 ghost use mathlib.Core.Path.{_≡_};
 ghost use Prim.Native.Nat.{_≤_};
-ghost use Rattle.rules.specs.TableText.{Record, inRange, mostHolds, mostJobs, mostSpeeds};
+ghost use Rattle.rules.specs.TableText.{Record, inRange, isBudget, mostHolds, mostJobs, mostSpeeds};
 ghost use Rattle.records.specs.Faults.{HolderOf, clockFault, speedFault, jobFault, holdFault, faultSays};
 ghost use Rattle.records.specs.Standing.{noneStanding, afterClock, afterSpeed, afterJob, afterHold};
 
@@ -49,13 +49,20 @@ pub enum Judgement {
     Bad(Refusal),
 }
 
+// The range of a budget, in a T line or beside a table.
+pub fn budget_in_range(budget: u64) -> bool
+    ensures { λ r. ⌜ r ≡ isBudget budget ⌝ }
+{
+    rules::within(0, MOST_BUDGET, budget)
+}
+
 fn clock_in_range(clock: u64, budget: u64) -> bool
     ensures { λ r. ⌜ r ≡ inRange (Record.T clock budget) ⌝ }
 {
     if !rules::within(0, MOST_TIME, clock) {
         return false;
     }
-    rules::within(0, MOST_BUDGET, budget)
+    budget_in_range(budget)
 }
 
 fn speed_in_range(speed: Speed) -> bool
@@ -194,13 +201,20 @@ pub fn none_standing() -> Standing
     }
 }
 
-// The state after a T line.
+// The state after a T line. It is made anew, and not a copy that is changed: a copy takes the unused bytes beside `begun` along,
+// and in a loop waits for the one before it.
 pub fn after_clock(before: Standing) -> Standing
     ensures { λ r. ⌜ r ≡ afterClock before ⌝ }
 {
-    let mut next = before;
-    next.begun = true;
-    next
+    Standing {
+        begun: true,
+        speeds: before.speeds,
+        jobs: before.jobs,
+        holds: before.holds,
+        mhz: before.mhz,
+        number: before.number,
+        resource: before.resource,
+    }
 }
 
 // The state after an F line.
@@ -208,11 +222,15 @@ pub fn after_speed(before: Standing, speed: Speed) -> Standing
     requires { ⌜ before .speeds ≤ mostSpeeds ⌝ }
     ensures { λ r. ⌜ r ≡ afterSpeed before speed ⌝ }
 {
-    let mut next = before;
-    next.begun = true;
-    next.speeds = before.speeds + 1;
-    next.mhz = speed.mhz;
-    next
+    Standing {
+        begun: true,
+        speeds: before.speeds + 1,
+        jobs: before.jobs,
+        holds: before.holds,
+        mhz: speed.mhz,
+        number: before.number,
+        resource: before.resource,
+    }
 }
 
 // The state after a J line.
@@ -220,11 +238,15 @@ pub fn after_job(before: Standing, job: Job) -> Standing
     requires { ⌜ before .jobs ≤ mostJobs ⌝ }
     ensures { λ r. ⌜ r ≡ afterJob before job ⌝ }
 {
-    let mut next = before;
-    next.begun = true;
-    next.jobs = before.jobs + 1;
-    next.number = job.number;
-    next
+    Standing {
+        begun: true,
+        speeds: before.speeds,
+        jobs: before.jobs + 1,
+        holds: before.holds,
+        mhz: before.mhz,
+        number: job.number,
+        resource: before.resource,
+    }
 }
 
 // The state after an H line.
@@ -232,11 +254,15 @@ pub fn after_hold(before: Standing, hold: Hold) -> Standing
     requires { ⌜ before .holds ≤ mostHolds ⌝ }
     ensures { λ r. ⌜ r ≡ afterHold before hold ⌝ }
 {
-    let mut next = before;
-    next.begun = true;
-    next.holds = before.holds + 1;
-    next.resource = hold.resource;
-    next
+    Standing {
+        begun: true,
+        speeds: before.speeds,
+        jobs: before.jobs,
+        holds: before.holds + 1,
+        mhz: before.mhz,
+        number: before.number,
+        resource: hold.resource,
+    }
 }
 
 // The job that an H line names, among the first count of the columns of numbers and requests.

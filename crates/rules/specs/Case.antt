@@ -10,9 +10,9 @@ use Rattle.rules.specs.Answers.{Answer, numberOf}
 use Rattle.rules.specs.Bytes.{bytes, charAmong, shown}
 use Rattle.rules.specs.Costs.{roundedUp}
 use Rattle.rules.specs.Cycles.{allocated, allocation, askedInRange, enough, leastFrom}
-use Rattle.rules.specs.Listing.{fateLine, finish, linesFor, listing, listingOf, orderLine, planLine, planLines, unplanned}
+use Rattle.rules.specs.Listing.{fateLine, finish, linesFor, listedWith, listingOf, orderLine, planLine, planLines, unplanned}
 use Rattle.rules.specs.Lists.{all, joined}
-use Rattle.rules.specs.Plan.{AfterPlanning, after, asksFor, before, begin, awaited, chainOf, course, courseOf, cyclesOf, endsBy, endsInTime, endsLate, energyAt, equal, fateIn, fatesOf, follow, gives, goesBefore, goesRather, holderIn, inPlan, farEndFirst, inTime, insert, isOf, jobsOf, judge, lateIn, leavesAll, leavesOf, leavesPlan, left, less, leastEnergy, member, memberFound, memberNew, memberPlanned, members, numbersOf, onRing, ownFate, partOf, planFrom, planOf, planning, planningOfUpTo, qualifies, ratioOf, remove, runOrder, runsFrom, runsOf, same, speedFor, speedOr, noTurnYet, staysBelow, leavesItsRing, leavesRing, timely, fateTold, tooDear, tooSmallUpTo, topOf, trial, turn, turnOf, turns, waitsFor, waitsLeft, waitsTimely, weightIn, ratioZero}
+use Rattle.rules.specs.Plan.{AfterPlanning, after, asksFor, atBudget, before, begin, awaited, chainOf, course, courseOf, cyclesOf, endsBy, endsInTime, endsLate, energyAt, equal, fateIn, fatesOf, follow, gives, goesBefore, goesRather, holderIn, inPlan, farEndFirst, inTime, insert, isOf, jobsOf, judge, lateIn, leavesAll, leavesOf, leavesPlan, left, less, leastEnergy, member, memberFound, memberNew, memberPlanned, members, numbersOf, onRing, ownFate, partOf, planFrom, planOf, planningOfUpTo, planningWith, qualifies, ratioOf, remove, runOrder, runsFrom, runsOf, same, speedFor, speedOr, noTurnYet, staysBelow, takenWithUpTo, leavesItsRing, leavesRing, timely, fateTold, tooDear, tooSmallUpTo, topOf, trial, turn, turnOf, turns, waitsFor, waitsLeft, waitsTimely, weightIn, ratioZero}
 use Rattle.rules.specs.Refusals.{AfterWriting, Before, Item, Judged, Taken, accept, acceptUpTo, accepted, added, andThen, asksOwn, atEnd, beyond, check, checkUpTo, criticalAfter, faultOfUpTo, holdItems, isHolder, itemsIn, itemShaped, itemsOfUpTo, jobItemsUpTo, judged, mayStand, nothing, outOfOrder, outOfRange, ownRequest, readUpTo, reading, readingUpTo, refusedAt, refusedFor, refusedOut, rises, speedItems, takeFromUpTo, taken, tableAnswerUpTo, tooManyUpTo, unknownJob, writing, written, writtenOf}
 use Rattle.rules.specs.TableText.{andMore, digitsOf, digitsWithin, fieldsOf, fieldsRecord, inRange, isBudget, isCost, isCycles, isDigit, isJobNumber, isMhz, isNumber, isRequest, isResource, isTime, isWorth, leadingZero, lineText, lined, linesOf, numberIn, numbersIn, ontoFirst, partedBy, recordOf, recordText, recordsOf, shapeOf, tableOfUpTo, textOf, valueFrom, withNumbers, fieldCount, letterRecord}
 use Rattle.rules.specs.declared.Hold.{Hold}
@@ -45,9 +45,10 @@ pub record Writing : Type 0 where
   pub answer : Answer
   pub after : String
 
--- a text, an order and a fate buffer, and the part that planning hands back and what it leaves
+-- a table, a budget beside it, an order and a fate buffer, and the part that planning hands back and what it leaves
 pub record Planning : Type 0 where
-  pub text : String
+  pub table : Table
+  pub budget : ℕ
   pub order : List ℕ
   pub fates : List ℕ
   pub part : List ℕ
@@ -56,6 +57,8 @@ pub record Planning : Type 0 where
 pub data Case : Type 0 where
   -- a table text, and the listing that it gives
   lists : String → String → Case
+  -- the same with a budget beside the text
+  listsWith : String → ℕ → String → Case
   -- mean, variance and assurance, and the answer
   allocates : ℕ → ℕ → ℕ → Answer → Case
   -- the lines of one text
@@ -117,8 +120,9 @@ samePlanning a b = sameAnswer (a .answer) (b .answer) && alike (a .order) (b .or
 
 -- the rules give what the case wants; every rule opens here
 unfoldable pub right : Case → Bool
-unfolding bytes charAmong shown numberThen answersFrom judgedIn numberAndLine checkedIn placesOf readIn ontoFirst partedBy linesOf fieldsOf isDigit leadingZero isNumber valueFrom numberIn andMore numbersIn fieldCount letterRecord recordOf withNumbers fieldsRecord shapeOf isTime isBudget isMhz isCost isJobNumber isCycles isWorth isResource isRequest inRange recordsOf tableOfUpTo digitsWithin digitsOf lineText recordText lined textOf nothing itemShaped itemsIn outOfRange mayStand rises outOfOrder tooManyUpTo criticalAfter isHolder unknownJob asksOwn ownRequest faultOfUpTo added judged acceptUpTo atEnd andThen takeFromUpTo readUpTo beyond speedItems jobItemsUpTo holdItems itemsOfUpTo checkUpTo tableAnswerUpTo readingUpTo refusedOut written writtenOf writing topOf endsBy cyclesOf runsFrom runsOf endsInTime same less equal lateIn timely asksFor holderIn waitsFor follow awaited weightIn goesRather onRing leavesRing waitsTimely leavesItsRing left waitsLeft chainOf farEndFirst gives ratioOf turnOf before turns jobsOf isOf inPlan goesBefore insert remove staysBelow memberPlanned memberNew memberFound member members begin trial runOrder inTime endsLate tooDear judge ratioZero turn after course noTurnYet courseOf fateTold ownFate fateIn energyAt qualifies speedOr leastEnergy speedFor planFrom planOf numbersOf fatesOf leavesPlan partOf leavesAll leavesOf tooSmallUpTo planningOfUpTo askedInRange enough leastFrom allocated allocation roundedUp finish planLine orderLine unplanned fateLine planLines linesFor listingOf listing
+unfolding bytes charAmong shown numberThen answersFrom judgedIn numberAndLine checkedIn placesOf readIn ontoFirst partedBy linesOf fieldsOf isDigit leadingZero isNumber valueFrom numberIn andMore numbersIn fieldCount letterRecord recordOf withNumbers fieldsRecord shapeOf isTime isBudget isMhz isCost isJobNumber isCycles isWorth isResource isRequest inRange recordsOf tableOfUpTo digitsWithin digitsOf lineText recordText lined textOf nothing itemShaped itemsIn outOfRange mayStand rises outOfOrder tooManyUpTo criticalAfter isHolder unknownJob asksOwn ownRequest faultOfUpTo added judged acceptUpTo atEnd andThen takeFromUpTo readUpTo beyond speedItems jobItemsUpTo holdItems itemsOfUpTo checkUpTo tableAnswerUpTo readingUpTo refusedOut written writtenOf writing topOf endsBy cyclesOf runsFrom runsOf endsInTime same less equal lateIn timely asksFor holderIn waitsFor follow awaited weightIn goesRather onRing leavesRing waitsTimely leavesItsRing left waitsLeft chainOf farEndFirst gives ratioOf turnOf before turns jobsOf isOf inPlan goesBefore insert remove staysBelow memberPlanned memberNew memberFound member members begin trial runOrder inTime endsLate tooDear judge ratioZero turn after course noTurnYet courseOf fateTold ownFate fateIn energyAt qualifies speedOr leastEnergy speedFor planFrom planOf numbersOf fatesOf leavesPlan partOf leavesAll leavesOf tooSmallUpTo planningOfUpTo atBudget takenWithUpTo askedInRange enough leastFrom allocated allocation roundedUp finish planLine orderLine unplanned fateLine planLines linesFor listingOf listedWith
 right (lists text want) = alike (listingOf (bytes text)) (bytes want)
+right (listsWith text budget want) = alike (listedWith (bytes text) budget) (bytes want)
 right (allocates mean variance assurance want) = sameAnswer (allocation mean variance assurance) want
 right (judges js) = alike (judgedIn js) (map (λ (j : Judging). j .number) js)
 right (checks cs) = all (λ (c : Checking). alike (checkedIn c) (c .number ∷ c .line ∷ [])) cs
@@ -128,17 +132,18 @@ right (writes ws) =
 right (plans ps) =
     all
     (λ (p : Planning).
-    let a = planning (bytes (p .text)) (p .order) (p .fates) in samePlanning a (p .after) && alike (partOf a) (p .part))
+    let a = planningWith (p .table) (p .budget) (p .order) (p .fates) in samePlanning a (p .after) && alike (partOf a) (p .part))
     ps
 
 unfoldable pub given : Case → Given
 given (lists text want) = listed (shown (listingOf (bytes text)))
+given (listsWith text budget want) = listed (shown (listedWith (bytes text) budget))
 given (allocates mean variance assurance want) = answered (allocation mean variance assurance)
 given (judges js) = numbered (judgedIn js)
 given (checks cs) = numbered (joined checkedIn cs)
 given (reads rs) = numbered (joined readIn rs)
 given (writes ws) = wrote (map (λ (w : Writing). writing (w .table) (bytes (w .out))) ws)
-given (plans ps) = planned (map (λ (p : Planning). planning (bytes (p .text)) (p .order) (p .fates)) ps)
+given (plans ps) = planned (map (λ (p : Planning). planningWith (p .table) (p .budget) (p .order) (p .fates)) ps)
 
 -- what the rules give where it is not what the case wants
 unfoldable pub wrong : Case → Option Given

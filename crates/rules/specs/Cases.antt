@@ -1,4 +1,4 @@
--- Our own cases: a second table and claim. They refuse readings of document 01 that the sheet lets pass.
+-- Our own cases: a second table and claim. They refuse readings of documents 01 and 02 that the sheet lets pass.
 use mathlib.Core.Path.{refl}
 use mathlib.Core.List.{List, [], _∷_, _++_, map}
 use Prim.Native.Nat.{ℕ, zero, suc, _+_, _-_, _*_}
@@ -6,8 +6,9 @@ use Prim.Native.String.{String}
 use lib.ListN.{replicate}
 use Rattle.rules.specs.Answers.{decisionSays, writtenSays}
 use Rattle.rules.specs.Bytes.{bytes}
-use Rattle.rules.specs.Case.{AllRight, Case, Checking, Judging, checks, judges, lists, plans, reads, writes, wrong}
-use Rattle.rules.specs.TableText.{Record, Records, mostJobs, noRecords, recordText, tableOf, withClock, withCounts, withHolds, withJobs, withSpeeds}
+use Rattle.rules.specs.Case.{AllRight, Case, Checking, Judging, Planning, checks, judges, lists, listsWith, plans, reads, writes, wrong}
+use Rattle.rules.specs.Refusals.{reading}
+use Rattle.rules.specs.TableText.{Record, Records, mostBudget, mostJobs, noRecords, recordText, tableOf, tableWithBudget, withClock, withCounts, withHolds, withJobs, withSpeeds}
 use Rattle.rules.specs.declared.Decision.{Decision}
 use Rattle.rules.specs.declared.Job.{Job}
 use Rattle.rules.specs.declared.Hold.{Hold}
@@ -59,6 +60,21 @@ checking t n l = record { table = t; number = n; line = l }
 
 abbrev five : String
 five = "T\t700\t5000\nF\t500\t12\nF\t800\t9\nF\t1000\t10\nJ\t1\t400\t1\t900\t900\t4\nJ\t2\t300\t10\t500\t1000\t2\nJ\t3\t500\t5\t1000\t1200\t0\nJ\t4\t200\t5\t3000\t3000\t2\nJ\t5\t300\t40\t3000\t3200\t0\nH\t1\t4\nH\t2\t5\nH\t3\t1\n"
+
+-- its table, with a budget in the T
+abbrev fiveAt : ℕ → Table
+fiveAt budget = tableWithBudget (reading (bytes five) .table) budget
+
+-- a table and a budget that planning refuses, and two buffers of so many places, which stay as they are
+abbrev turnedAway : Table → ℕ → ℕ → ℕ → Refusal → ℕ → Planning
+turnedAway t budget orders fates why line = record {
+  table = t;
+  budget = budget;
+  order = replicate orders 8;
+  fates = replicate fates 9;
+  part = [];
+  after = record { answer = decisionSays (Decision.Refused why line); order = replicate orders 8; fates = replicate fates 9 };
+}
 
 unfoldable pub cases : List Case
 cases =
@@ -170,10 +186,11 @@ cases =
     ∷ record { table = counted 1 0 0 1 0 0; out = "xxxxxxxxxxx"; answer = writtenSays (Written.Refused Refusal.Room 0); after = "xxxxxxxxxxx" }
     ∷ record { table = counted 1 0 0 0 0 0; out = "x"; answer = writtenSays (Written.Refused Refusal.Order 2); after = "x" }
     ∷ [])
-    -- The buffers: zeros to the end, of long ones too; too small and refused: as they were.
+    -- The buffers: zeros to the end, of long ones too; refused: as they were.
     ∷ plans
     (record {
-      text = five;
+      table = fiveAt mostBudget;
+      budget = 5000;
       order = replicate mostJobs 8;
       fates = replicate (mostJobs + 2) 9;
       part = 5 ∷ 4 ∷ [];
@@ -184,28 +201,34 @@ cases =
             fates = 2 ∷ 5 ∷ 6 ∷ 1 ∷ 1 ∷ replicate (mostJobs - 3) 0;
           };
     }
+    -- The budget beside counts, not the table's own, which is greater above and less here.
     ∷ record {
-      text = five;
-      order = replicate (mostJobs - 1) 8;
-      fates = replicate mostJobs 9;
-      part = [];
-      after = record { answer = decisionSays (Decision.Refused Refusal.Room 0); order = replicate (mostJobs - 1) 8; fates = replicate mostJobs 9 };
-    }
-    ∷ record {
-      text = five;
-      order = replicate mostJobs 8;
-      fates = replicate (mostJobs - 1) 9;
-      part = [];
-      after = record { answer = decisionSays (Decision.Refused Refusal.Room 0); order = replicate mostJobs 8; fates = replicate (mostJobs - 1) 9 };
-    }
-    ∷ record {
-      text = "T\t0\t0\nF\t1\t0\n";
+      table = fiveAt 5000;
+      budget = mostBudget;
       order = replicate mostJobs 8;
       fates = replicate mostJobs 9;
-      part = [];
-      after = record { answer = decisionSays (Decision.Refused Refusal.Range 2); order = replicate mostJobs 8; fates = replicate mostJobs 9 };
+      part = 3 ∷ 5 ∷ 4 ∷ [];
+      after =
+          record {
+            answer = decisionSays (Decision.Plan 3 1000 10000);
+            order = 3 ∷ 5 ∷ 4 ∷ replicate (mostJobs - 3) 0;
+            fates = 2 ∷ 5 ∷ 1 ∷ 1 ∷ 1 ∷ replicate (mostJobs - 5) 0;
+          };
     }
+    -- A buffer too small comes first, then the budget beside, then the table: its own T, and its other records with their lines.
+    ∷ turnedAway (fiveAt 5000) (mostBudget + 1) (mostJobs - 1) mostJobs Refusal.Room 0
+    ∷ turnedAway (fiveAt 5000) (mostBudget + 1) mostJobs (mostJobs - 1) Refusal.Room 0
+    ∷ turnedAway (counted 0 0 0 0 0 0) (mostBudget + 1) mostJobs mostJobs Refusal.Range 1
+    ∷ turnedAway (fiveAt (mostBudget + 1)) 5000 mostJobs mostJobs Refusal.Range 1
+    ∷ turnedAway (counted 0 0 0 0 0 0) mostBudget mostJobs mostJobs Refusal.Order 2
+    ∷ turnedAway (counted 2 64 32 2 65 32) 0 mostJobs mostJobs Refusal.TooMany 68
     ∷ [])
+    -- A budget beside a text: the text's own refusal comes first, also that of its own budget; then the budget's.
+    ∷ listsWith five mostBudget "P\t1000\t10000\t3\nO\t3\t1200\nO\t5\t1500\nO\t4\t1700\nX\t1\t2\nX\t2\t5\n"
+    ∷ listsWith five 0 "P\t500\t0\t0\nX\t1\t2\nX\t2\t5\nX\t3\t6\nX\t4\t6\nX\t5\t6\n"
+    ∷ listsWith five (mostBudget + 1) "R\t2\t1\n"
+    ∷ listsWith "T\t0\t0\nF\t1\t0\n" (mostBudget + 1) "R\t2\t2\n"
+    ∷ listsWith "T\t0\t1000000000000001\nF\t1\t1\n" 0 "R\t2\t1\n"
     -- The reader's table: 0 in every unused place; refused, 0 in every place.
     ∷ reads
     (record {
@@ -222,4 +245,4 @@ cases =
 
 pub cases-right : AllRight cases
 unfolding cases wrong
-cases-right = (refl, (refl, (refl, (refl, (refl, (refl, (refl, (refl, (refl, (refl, (refl, (refl, (refl, tt)))))))))))))
+cases-right = (refl, (refl, (refl, (refl, (refl, (refl, (refl, (refl, (refl, (refl, (refl, (refl, (refl, (refl, (refl, (refl, (refl, (refl, tt))))))))))))))))))

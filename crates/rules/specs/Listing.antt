@@ -7,7 +7,7 @@ use lib.ListN.{length}
 use Rattle.rules.specs.Answers.{numberOf}
 use Rattle.rules.specs.Costs.{roundedUp}
 use Rattle.rules.specs.Lists.{joined, keep}
-use Rattle.rules.specs.Plan.{Fated, Plan, Run, fatePlanned, planOf, runsOf}
+use Rattle.rules.specs.Plan.{Fated, Plan, Run, atBudget, fatePlanned, planOf, runsOf}
 use Rattle.rules.specs.Refusals.{AfterWriting, Taken, read, refusedAt, taken, written}
 use Rattle.rules.specs.TableText.{lineText}
 
@@ -55,6 +55,13 @@ linesFor (refusedAt why line) = lineText letterR (numberOf why ∷ line ∷ [])
 unfoldable pub listingOf : List ℕ → List ℕ
 listingOf text = linesFor (read text)
 
+-- The same with a budget beside the text (document 02, A5): the text is read first, then its table is planned with that budget.
+unfoldable pub listedWith : List ℕ → ℕ → List ℕ
+listedWith text budget = linesFor (atBudget budget (read text))
+
 -- The listing written to the front of a lent buffer. Document 01 leaves room open here: as for the writer, 8, line 0.
 unfoldable pub listing : List ℕ → List ℕ → AfterWriting
 listing text out = written (listingOf text) out
+
+unfoldable pub listingWith : List ℕ → ℕ → List ℕ → AfterWriting
+listingWith text budget out = written (listedWith text budget) out

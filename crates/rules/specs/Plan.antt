@@ -7,12 +7,13 @@ use lib.Dec.{leb, ltb, eqb}
 use lib.ListN.{length, take}
 use Rattle.rules.specs.Answers.{Answer, good, refused}
 use Rattle.rules.specs.Lists.{all, any, find, keep, lastOr, putIn, sorted, total}
-use Rattle.rules.specs.Refusals.{Taken, refusedAt, taken, isHolder, read}
-use Rattle.rules.specs.TableText.{Records, mostHolds, mostJobs, noSpeed, nth, padded}
+use Rattle.rules.specs.Refusals.{Taken, checkUpTo, isHolder, read, refusedAt, taken}
+use Rattle.rules.specs.TableText.{Records, isBudget, mostHolds, mostJobs, noSpeed, nth, padded, withBudget}
 use Rattle.rules.specs.declared.Refusal.{Refusal}
 use Rattle.rules.specs.declared.Speed.{Speed}
 use Rattle.rules.specs.declared.Job.{Job}
 use Rattle.rules.specs.declared.Hold.{Hold}
+use Rattle.rules.specs.declared.Table.{Table}
 
 -- "Let the top speed be the last F."
 unfoldable pub topOf : Records → Speed
@@ -392,7 +393,7 @@ unfoldable pub leavesOf : Taken → List ℕ → List ℕ → AfterPlanning
 leavesOf (taken t) order fates = leavesPlan (planOf t) order fates
 leavesOf (refusedAt why line) order fates = leavesAll why line order fates
 
--- "an order buffer or a fate buffer of fewer than 64 places is refused 8 with line 0", before the text is read
+-- "an order buffer or a fate buffer of fewer than 64 places is refused 8 with line 0", before anything else is looked at
 unfoldable pub tooSmallUpTo : ℕ → List ℕ → Bool
 tooSmallUpTo most buffer = ltb (length buffer) most
 
@@ -408,6 +409,32 @@ planningOfUpTo most k order fates =
 abbrev pub planningOf : Taken → List ℕ → List ℕ → AfterPlanning
 planningOf = planningOfUpTo mostJobs
 
--- "The planner takes a text".
+-- Changed by document 02's A5, where 01 says "The planner takes a text": "The one call that takes text and gives a plan becomes
+-- two: one reads the text to a table, one plans a table with a budget given beside it."
+
+-- "2 for the budget, line 1"
+abbrev pub budgetRefused : Taken
+budgetRefused = refusedAt Refusal.Range 1
+
+-- "a budget given beside it": the records that were taken, with it in the place of their own, if it is in its range
+unfoldable pub atBudget : ℕ → Taken → Taken
+atBudget budget (taken t) = cond (isBudget budget) (taken (withBudget t budget)) budgetRefused
+atBudget budget (refusedAt why line) = refusedAt why line
+
+-- "The second call checks its table as the writer does." The budget's refusal comes "before the table's own".
+unfoldable pub takenWithUpTo : ℕ → Table → ℕ → Taken
+takenWithUpTo most table budget = cond (isBudget budget) (atBudget budget (checkUpTo most table)) budgetRefused
+
+abbrev pub takenWith : Table → ℕ → Taken
+takenWith = takenWithUpTo mostJobs
+
+-- The second call: "Refusals: 2 for the budget, line 1, after 8 and before the table's own."
+abbrev pub planningWith : Table → ℕ → List ℕ → List ℕ → AfterPlanning
+planningWith table budget = planningOf (takenWith table budget)
+
+-- The one call of document 01, "The planner takes a text, and before reading it looks at its two lent buffers". No call is it any
+-- more: it is what the two are held to (demands/proofs/ReadOnce). "With the text's own budget and buffers large enough, the two
+-- answer as the one did, refusals included; the buffer check moves with planning, after reading": so where a buffer is too small
+-- and the text is refused, the one said 8, line 0, and the two say the text's refusal; nowhere else do they differ.
 abbrev pub planning : List ℕ → List ℕ → List ℕ → AfterPlanning
 planning text = planningOf (read text)

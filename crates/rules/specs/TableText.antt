@@ -240,6 +240,9 @@ noRecords = record { clock = 0; budget = 0; speeds = []; jobs = []; holds = [] }
 abbrev pub withClock : Records → ℕ → ℕ → Records
 withClock r clock budget = record { clock = clock; budget = budget; speeds = r .speeds; jobs = r .jobs; holds = r .holds }
 
+abbrev pub withBudget : Records → ℕ → Records
+withBudget r budget = withClock r (r .clock) budget
+
 abbrev pub withSpeeds : Records → List Speed → Records
 withSpeeds r fs = record { clock = r .clock; budget = r .budget; speeds = fs; jobs = r .jobs; holds = r .holds }
 
@@ -287,6 +290,19 @@ tableOfUpTo most r = record {
 
 abbrev pub tableOf : Records → Table
 tableOf = tableOfUpTo mostJobs
+
+-- a table whose T has another budget
+abbrev pub tableWithBudget : Table → ℕ → Table
+tableWithBudget t budget = record {
+  clock = t .clock;
+  budget = budget;
+  «speed_count» = t .«speed_count»;
+  «job_count» = t .«job_count»;
+  «hold_count» = t .«hold_count»;
+  speeds = t .speeds;
+  jobs = t .jobs;
+  holds = t .holds;
+}
 
 -- a table with other counts
 abbrev pub withCounts : Table → ℕ → ℕ → ℕ → Table

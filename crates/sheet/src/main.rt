@@ -3,10 +3,13 @@
 //
 // An argument names a report and a table of data/, as `list:S`:
 // - `list`: the listing, as the program prints it.
-// - `plan`: `plan_into`, then `plan_into` and `hand_back`, then `plan`, each with the whole of both marked buffers afterwards.
+// - `plan`: the text read, and its table planned with its own budget: `plan_into`, then `plan_into` and `hand_back`, then `plan`,
+//   each with the whole of both marked buffers afterwards.
+// - `knob`: the text read once, and its table planned with several budgets beside it.
+// - `many`: the listing with several budgets beside the text.
 // - `room`: `plan_into`, `list` and `write` with as many places as they need, and with one fewer.
 // - `text`: the table read and written again.
-// - `bent`: the table with its records or counts made wrong, and written.
+// - `bent`: the table with its records or counts made wrong, written, and planned with a good budget beside it.
 // - `head`: the first line alone, as the box's front end reads it.
 // - `walk`: every field, as the box's front end walks the text, with the line that it stands in.
 // Then come the cycles to allocate and the supplied costs, by number.
@@ -37,11 +40,27 @@ fn list(text: &[u8]) {
     report::put_listing(listed, &lines);
 }
 
+// The listing with a budget beside the text.
+fn list_with(text: &[u8], budget: u64) {
+    let mut lines = [0u8; 1200];
+    let listed = listing::list_with_budget(text, budget, &mut lines);
+    report::put_listing(listed, &lines);
+}
+
+fn list_many(text: &[u8]) {
+    list_with(text, 0);
+    list_with(text, 2499999999);
+    list_with(text, plan::MOST_BUDGET);
+    list_with(text, plan::MOST_BUDGET + 1);
+}
+
 // The report that begins with the letter.
 fn run(letter: u8, text: &[u8]) {
     match letter {
         b'l' => list(text),
         b'p' => plan::all_three(text),
+        b'k' => plan::turn_the_knob(text),
+        b'm' => list_many(text),
         b'r' => room::each_call(text),
         b't' => again::read_and_write(text),
         b'b' => bent::each_way(text),

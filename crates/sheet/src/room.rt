@@ -64,14 +64,14 @@ fn write_rooms(table: Table) {
 }
 
 pub(crate) fn each_call(text: &[u8]) {
+    let reading = reader::read(text);
+    let table = reading.table;
     put_part_name(b"plan_into, 64 and 64 places, 63 and 70, 70 and 63");
-    plan_into_places(text, 64, 64);
-    plan_into_places(text, 63, PLACES);
-    plan_into_places(text, PLACES, 63);
+    plan_into_places(table, table.budget, 64, 64);
+    plan_into_places(table, table.budget, 63, PLACES);
+    plan_into_places(table, table.budget, PLACES, 63);
     put_part_name(b"list, 64 places, as many as it needs, one fewer");
     list_rooms(text);
     put_part_name(b"write, 64 places, as many as it needs, one fewer");
-    let reading = reader::read(text);
-    let table = reading.table;
     write_rooms(table);
 }

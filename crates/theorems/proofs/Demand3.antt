@@ -6,6 +6,7 @@ use mathlib.Core.List.{List}
 use mathlib.Core.Option.{some}
 use mathlib.Core.Path.{_≡_, sym, ap, _∙_}
 use Prim.Native.Nat.{ℕ, _<_}
+use Rattle.grammar.proofs.BudgetBeside.{valid-at}
 use Rattle.laws.proofs.Choices.{split-option}
 use Rattle.laws.proofs.Elements.{each-too}
 use Rattle.steps.proofs.Jobs.{each-left, each-timely, is-holder, jobs-cycles, waits-by, waits-each, waits-number}
@@ -16,7 +17,7 @@ use Rattle.theorems.specs.Demand3.{Agree, Alike, NoneAsksInside, NonePla
 use Rattle.rules.specs.Lists.{Each, find, keep}
 use Rattle.rules.specs.Plan.{Entry, asksFor, awaited, courseOf, holderIn, jobsOf, lateIn, leavesItsRing, leavesRing, left, planFrom, planOf, timely, waitsFor, waitsLeft, waitsTimely}
 use Rattle.rules.specs.Refusals.{isHolder}
-use Rattle.rules.specs.TableText.{Records, mostHolds}
+use Rattle.rules.specs.TableText.{Records, isBudget, mostHolds, withBudget}
 use Rattle.rules.specs.Valid.{Valid}
 use Rattle.rules.specs.declared.Hold.{Hold}
 use Rattle.rules.specs.declared.Job.{Job}
@@ -138,12 +139,17 @@ module _ (set : ℕ → Bool) where
         none-in = each-unmap (λ (e : Entry). e .job) (courseOf t .plan) (rw (run-order t (courseOf t .plan)) at n);
       }
 
-  same-outside : (a b : Records) → Agree set a b → onlyOutside (outOf set) a ≡ onlyOutside (outOf set) b
-  unfolding onlyOutside
-  same-outside a b g = rw (g .clock, g .budget, g .speeds, g .jobs, g .holds)
+  module _ (budget : ℕ) (in-range : isBudget budget ≡ true) (a b : Records) where
+    same-outside : Agree set a b
+        → onlyOutside (outOf set) (withBudget a budget) ≡ onlyOutside (outOf set) (withBudget b budget)
+    unfolding onlyOutside
+    same-outside g = rw (g .clock, g .speeds, g .jobs, g .holds)
 
-  -- Jobs that are not planned do not matter.
-  pub unplanned-do-not-matter : (a b : Records) → Valid a → Valid b → Agree set a b → NoneAsksInside set a → NoneAsksInside set b
-      → NonePlanned set a → NonePlanned set b → Alike (outOf set) a b
-  unplanned-do-not-matter a b va vb g aa ab na nb =
-      demand-3 (outOf set) a b (same-outside a b g) (fits a va aa na) (fits b vb ab nb)
+    -- Jobs that are not planned do not matter.
+    pub unplanned-do-not-matter : Valid a → Valid b → Agree set a b → NoneAsksInside set a → NoneAsksInside set b
+        → NonePlanned set (withBudget a budget) → NonePlanned set (withBudget b budget)
+        → Alike (outOf set) (withBudget a budget) (withBudget b budget)
+    unplanned-do-not-matter va vb g aa ab na nb =
+        demand-3 (outOf set) (withBudget a budget) (withBudget b budget) (same-outside g)
+        (fits (withBudget a budget) (valid-at va budget in-range) aa na)
+        (fits (withBudget b budget) (valid-at vb budget in-range) ab nb)

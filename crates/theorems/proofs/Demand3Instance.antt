@@ -1,6 +1,6 @@
--- Demand 3's premises can be met: case S, and S with job 4 changed, job 5 gone and job 6 new, whose plans are both 3, 2, 1.
--- The set is the numbers from 4 on. In the second table job 4, inside, waits for job 3, outside. antt computes each of the
--- premises. Assumes nothing.
+-- Demand 3's premises can be met: case S, and S with job 4 changed, job 5 gone, job 6 new and another budget of its own. With
+-- S's budget beside them the plans are both 3, 2, 1. The set is the numbers from 4 on. In the second table job 4, inside, waits
+-- for job 3, outside. antt computes each of the premises. Assumes nothing.
 use mathlib.Core.Bool.{Bool, true, false, not, _||_}
 use mathlib.Core.List.{List, [], _∷_}
 use mathlib.Core.Option.{some}
@@ -16,7 +16,7 @@ use Rattle.theorems.specs.Demand3.{Alike, NoneAsksInside, NonePlanned, o
 use Rattle.rules.specs.Case.{right}
 use Rattle.rules.specs.Lists.{all}
 use Rattle.rules.specs.Plan.{asksFor, numbersOf, planOf, waitsLeft}
-use Rattle.rules.specs.TableText.{Records}
+use Rattle.rules.specs.TableText.{Records, isBudget, withBudget}
 use Rattle.rules.specs.Valid.{Valid}
 use Rattle.rules.specs.declared.Hold.{Hold}
 use Rattle.rules.specs.declared.Job.{Job}
@@ -58,7 +58,7 @@ a = table 0 2500000000 twoSpeeds (outsideJobs (job 4 2000 40 4000 4000 0 ∷ job
 
 abbrev b : Records
 b =
-    table 0 2500000000 twoSpeeds (outsideJobs (job 4 2000 90 4000 4000 1 ∷ job 6 9000 1 2500 2500 0 ∷ []))
+    table 0 7 twoSpeeds (outsideJobs (job 4 2000 90 4000 4000 1 ∷ job 6 9000 1 2500 2500 0 ∷ []))
     (hold 1 3 ∷ hold 2 6 ∷ [])
 
 pub a-valid : Valid a
@@ -77,16 +77,20 @@ b-asks : NoneAsksInside from4 b
 unfolding right
 b-asks = asks-tested from4 b refl
 
-a-plan : NonePlanned from4 a
-unfolding right
-a-plan = plan-tested from4 a refl
+-- with the budget beside them
+abbrev beside : Records → Records
+beside t = withBudget t 2500000000
 
-b-plan : NonePlanned from4 b
+a-plan : NonePlanned from4 (beside a)
 unfolding right
-b-plan = plan-tested from4 b refl
+a-plan = plan-tested from4 (beside a) refl
+
+b-plan : NonePlanned from4 (beside b)
+unfolding right
+b-plan = plan-tested from4 (beside b) refl
 
 -- the plan is not empty
-pub plan-is : numbersOf (planOf a .jobs) ≡ 3 ∷ 2 ∷ 1 ∷ []
+pub plan-is : numbersOf (planOf (beside a) .jobs) ≡ 3 ∷ 2 ∷ 1 ∷ []
 unfolding right
 plan-is = refl
 
@@ -95,7 +99,16 @@ pub inside-waits : waitsLeft b (job 4 2000 90 4000 4000 1) ≡ some (job 3 500 1
 unfolding right
 inside-waits = refl
 
-pub alike-plans : Alike (outOf from4) a b
+in-range : isBudget 2500000000 ≡ true
+unfolding right
+in-range = refl
+
+pub alike-plans : Alike (outOf from4) (beside a) (beside b)
 alike-plans =
-    unplanned-do-not-matter from4 a b a-valid b-valid
-    (record { clock = refl; budget = refl; speeds = refl; jobs = refl; holds = refl }) a-asks b-asks a-plan b-plan
+    unplanned-do-not-matter from4 2500000000 in-range a b a-valid b-valid
+    (record { clock = refl; speeds = refl; jobs = refl; holds = refl }) a-asks b-asks a-plan b-plan
+
+-- with the second's own budget it would plan nothing
+pub own-budget-plans-nothing : planOf b .jobs ≡ []
+unfolding right
+own-budget-plans-nothing = refl

@@ -1,5 +1,5 @@
--- Each premise of demand 3 is needed: for each, two valid tables that meet all the others and are planned differently. The
--- set is the numbers from 4 on. antt computes the tests. Assumes nothing.
+-- Each premise of demand 3 is needed: for each, two valid tables that meet all the others and are planned differently. A table
+-- stands here with the budget beside it in its T. The set is the numbers from 4 on. antt computes the tests. Assumes nothing.
 use mathlib.Core.Bool.{Bool, false, not, _&&_}
 use mathlib.Core.List.{List, [], _∷_, map}
 use mathlib.Core.Path.{_≡_, refl}
@@ -28,7 +28,7 @@ outerJobs t = joined jobPlaces (keep (λ (j : Job). not (inSet (j .number))) (t 
 abbrev outerHolds : Records → List ℕ
 outerHolds t = joined (λ (h : Hold). h .resource ∷ h .holder ∷ []) (keep (λ (h : Hold). not (inSet (h .holder))) (t .holds))
 
--- clock, budget, speeds, costs, jobs outside, resources they hold, asks, not planned
+-- clock, the budget beside, speeds, costs, jobs outside, resources they hold, asks, not planned
 abbrev premises : Records → Records → List Bool
 premises a b =
     eqb (a .clock) (b .clock)

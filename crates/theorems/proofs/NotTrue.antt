@@ -6,27 +6,30 @@ use mathlib.Core.Path.{_≡_, refl}
 use Prim.Native.Nat.{ℕ}
 use Rattle.grammar.proofs.Tables.{hold, job, read-valid, speed, table}
 use Rattle.rules.specs.Case.{right}
-use Rattle.rules.specs.Plan.{courseOf, endsLate, fatesOf, numbersOf, planOf, qualifies, tooDear, trial, turnOf}
-use Rattle.rules.specs.TableText.{Records}
+use Rattle.rules.specs.Plan.{Plan, courseOf, endsLate, fatesOf, numbersOf, planOf, qualifies, tooDear, trial, turnOf}
+use Rattle.rules.specs.TableText.{Records, withBudget}
 use Rattle.rules.specs.Valid.{Valid}
 
--- NOT TRUE: more budget never loses a job. With a budget of 200 jobs 3 and 1 run; with 300 job 2, whose ratio is the highest,
--- is bought first, and both get a 6.
-abbrev budgeted : ℕ → Records
-budgeted budget =
-    table 0 budget (speed 1000 10 ∷ [])
+-- NOT TRUE: more budget never loses a job. With a budget of 200 beside the table jobs 3 and 1 run; with 300 job 2, whose ratio
+-- is the highest, is bought first, and both get a 6.
+abbrev bought : Records
+bought =
+    table 0 0 (speed 1000 10 ∷ [])
     (job 1 5 10 60 90 0 ∷ job 2 30 90 40 70 0 ∷ job 3 5 10 40 70 0 ∷ [])
     []
 
-pub budgets-valid : Valid (budgeted 200) × Valid (budgeted 300)
-unfolding right
-budgets-valid = (read-valid (budgeted 200) refl, read-valid (budgeted 300) refl)
+abbrev boughtWith : ℕ → Plan
+boughtWith budget = planOf (withBudget bought budget)
 
-pub less-budget-plans-two : numbersOf (planOf (budgeted 200) .jobs) ≡ 3 ∷ 1 ∷ []
+pub bought-valid : Valid bought
+unfolding right
+bought-valid = read-valid bought refl
+
+pub less-budget-plans-two : numbersOf (boughtWith 200 .jobs) ≡ 3 ∷ 1 ∷ []
 unfolding right
 less-budget-plans-two = refl
 
-pub more-budget-loses-them : (numbersOf (planOf (budgeted 300) .jobs) ≡ 2 ∷ []) × (fatesOf (planOf (budgeted 300) .fates) ≡ 6 ∷ 1 ∷ 6 ∷ [])
+pub more-budget-loses-them : (numbersOf (boughtWith 300 .jobs) ≡ 2 ∷ []) × (fatesOf (boughtWith 300 .fates) ≡ 6 ∷ 1 ∷ 6 ∷ [])
 unfolding right
 more-budget-loses-them = (refl, refl)
 

@@ -1,14 +1,17 @@
--- The eleven theorems for testers, of every valid table's plan, in one place. Each is proved where its reason is: Speeds (1, 2
--- and 11), Planned (3, 4), Fates (4), Rings (5), Overtaken (6, 7, 8), NotEmpty (9), Again (10), SpeedRules (11). Assumes nothing.
+-- The twelve theorems for testers, of every valid table's plan, in one place. Each is proved where its reason is: Speeds (1, 2
+-- and 11), Planned (3, 4), Fates (4), Rings (5), Overtaken (6, 7, 8), NotEmpty (9), Again (10), SpeedRules (11), and the twelfth
+-- here. What is planned are a table's records with the budget beside it (`promises-beside`), so that "the budget" is that one.
+-- Assumes nothing.
 use mathlib.Core.Bool.{Bool, true}
 use mathlib.Core.List.{List, [], _∷_, cons≢nil, map}
 use mathlib.Core.Logic.{_⊎_}
 use mathlib.Core.Option.{none}
 use mathlib.Core.Path.{_≡_, refl}
-use Prim.Native.Nat.{_+_, _*_, _≤_, _<_}
+use Prim.Native.Nat.{ℕ, _+_, _*_, _≤_, _<_}
 use lib.Dec.{eqb}
 use lib.ListN.{getD, length}
 use Rattle.theorems.proofs.Again.{again, all-planned-again, planned, planned-again}
+use Rattle.grammar.proofs.BudgetBeside.{taken-beside}
 use Rattle.steps.proofs.Course.{AtEachTurn, at-each-turn-of}
 use Rattle.laws.proofs.Elements.{each-too}
 use Rattle.steps.proofs.Fates.{fates-1-to-6}
@@ -24,11 +27,13 @@ use Rattle.theorems.proofs.SpeedRules.{SinceVersionFour, by-the-rule, r
 use Rattle.theorems.specs.SpeedRules.{SpeedRule, planBy}
 use Rattle.rules.specs.Listing.{finish}
 use Rattle.rules.specs.Lists.{Each, keep, lastOr}
-use Rattle.rules.specs.Plan.{Entry, Fated, chainOf, courseOf, cyclesOf, endsInTime, energyAt, fateBudget, fatePlanned, fateTime, fatesOf, inPlan, inTime, jobsOf, leavesItsRing, left, numbersOf, planFrom, planOf, runsOf, noTurnYet, speedFor, timely, topOf, turn, turns, waitsLeft, waitsTimely, runOrder}
-use Rattle.rules.specs.TableText.{Records, noJob, noSpeed}
+use Rattle.rules.specs.Plan.{Entry, Fated, chainOf, courseOf, gives, goesRather, onRing, ratioOf, takenWith, turnOf, weightIn, cyclesOf, endsInTime, energyAt, fateBudget, fatePlanned, fateTime, fatesOf, inPlan, inTime, jobsOf, lateIn, leavesItsRing, leavesRing, left, numbersOf, planFrom, planOf, runsOf, noTurnYet, speedFor, timely, topOf, turn, turns, waitsLeft, waitsTimely, runOrder}
+use Rattle.rules.specs.Refusals.{taken}
+use Rattle.rules.specs.TableText.{Records, noJob, noSpeed, withBudget}
 use Rattle.rules.specs.Valid.{Valid}
 use Rattle.rules.specs.declared.Job.{Job}
 use Rattle.rules.specs.declared.Speed.{Speed}
+use Rattle.rules.specs.declared.Table.{Table}
 use Rattle.steps.proofs.RunOrder.{run-order}
 
 -- the job is in the final plan
@@ -97,6 +102,24 @@ pub record Promises (t : Records) : Type 0 where
   pub by-step-9 : planBy speedFor t ≡ planOf t
   pub any-speed-rule : (rule : SpeedRule) → (planBy rule t .jobs ≡ planOf t .jobs) × (planBy rule t .fates ≡ planOf t .fates)
   pub against-version-four : SinceVersionFour t
+  -- 12. Whatever budget is beside the table, the same jobs are late alone and the same are taken from rings, and the turns come
+  -- in the same order.
+  pub any-budget-late : (budget : ℕ) (j : Job) → lateIn (withBudget t budget) j ≡ lateIn t j
+  pub any-budget-rings : (budget : ℕ) (j : Job) → leavesItsRing (withBudget t budget) j ≡ leavesItsRing t j
+  pub any-budget-turns : (budget : ℕ) → turns (withBudget t budget) ≡ turns t
+
+module _ (t : Records) (budget : ℕ) where
+  same-late : (j : Job) → lateIn (withBudget t budget) j ≡ lateIn t j
+  unfolding lateIn topOf
+  same-late j = refl
+
+  same-rings : (j : Job) → leavesItsRing (withBudget t budget) j ≡ leavesItsRing t j
+  unfolding leavesItsRing leavesRing onRing goesRather weightIn waitsTimely timely lateIn topOf
+  same-rings j = refl
+
+  same-turns : turns (withBudget t budget) ≡ turns t
+  unfolding turns turnOf ratioOf gives chainOf left waitsLeft leavesItsRing leavesRing onRing goesRather weightIn waitsTimely timely lateIn topOf
+  same-turns = refl
 
 module _ (t : Records) (v : Valid t) where
   six-in-plan : Each (λ (i : Fated). i .fate ≡ fateBudget
@@ -147,4 +170,13 @@ module _ (t : Records) (v : Valid t) where
         by-step-9 = by-the-rule t;
         any-speed-rule = λ rule. rule-leaves-plan-and-fates rule t;
         against-version-four = since-version-four t v;
+        any-budget-late = same-late t;
+        any-budget-rings = same-rings t;
+        any-budget-turns = same-turns t;
       }
+
+-- They hold of whatever planning takes, and its budget is the one beside the table.
+pub promises-beside : (table : Table) (budget : ℕ) (t : Records) → takenWith table budget ≡ taken t
+    → (t .budget ≡ budget) × Promises t
+promises-beside table budget t e =
+    let (same, valid) = taken-beside table budget t e in (same, promises t valid)

@@ -1,5 +1,6 @@
 -- Demand 3, "jobs that are not planned don't matter", as statements over two tables: what it asks of them, and what both then
--- give.
+-- give. "In demand 3 the budget is the one given beside the table" (document 02, A5): both are planned with one budget, and what
+-- their own T say of a budget may differ.
 use mathlib.Core.Bool.{Bool, true, not}
 use mathlib.Core.Path.{_≡_}
 use Prim.Native.Nat.{ℕ}
@@ -36,10 +37,10 @@ module _ (set : ℕ → Bool) where
   abbrev pub outOf : ℕ → Bool
   outOf n = not (set n)
 
-  -- "agree in every job outside some set, in the resources those jobs hold, and in clock, budget, speeds and their costs"
+  -- "agree in every job outside some set, in the resources those jobs hold, and in clock, budget, speeds and their costs", the
+  -- budget being the one beside them
   pub record Agree (a b : Records) : Type 0 where
     pub clock : a .clock ≡ b .clock
-    pub budget : a .budget ≡ b .budget
     pub speeds : a .speeds ≡ b .speeds
     pub jobs : keep (outerJob outOf) (a .jobs) ≡ keep (outerJob outOf) (b .jobs)
     pub holds : keep (outerHold outOf) (a .holds) ≡ keep (outerHold outOf) (b .holds)

@@ -6,20 +6,21 @@
  * in the order of its struct. A frame is read whole before the first answer is written, so neither side waits for the
  * other to make room.
  *
- *   request                                                        answer
- *   1, text length, order length, fates length, text, order, fates  number, line, count, speed, energy, order, fates
- *   2, text length, out length, text, out                           number, line, length, out
- *   3, text length, text                                            number, line, table
- *   4, table, out length, out                                       number, line, length, out
- *   5, mean, variance, assurance                                    number, line, cycles
- *   6, model                                                        number, line, seven costs
+ *   request                                                          answer
+ *   1, text length, text                                              number, line, table
+ *   2, table, budget, order length, fates length, order, fates        number, line, count, speed, energy, order, fates
+ *   3, text length, out length, text, out                             number, line, length, out
+ *   4, budget, text length, out length, text, out                     number, line, length, out
+ *   5, table, out length, out                                         number, line, length, out
+ *   6, mean, variance, assurance                                      number, line, cycles
+ *   7, model                                                          number, line, seven costs
  */
 #include <cuddlelamb.h>
 #include <stdio.h>
 #include <stdlib.h>
 #include <string.h>
 
-enum { PLAN = 1, LIST, READ, WRITE, ALLOCATE, COSTS };
+enum { READ = 1, PLAN, LIST, LIST_WITH_BUDGET, WRITE, ALLOCATE, COSTS };
 
 struct frame {
     uint8_t *bytes;
@@ -77,16 +78,25 @@ static void give(struct frame *to, const void *bytes, size_t length) {
     to->length += length;
 }
 
-static void plan(struct frame *from, struct frame *to) {
-    size_t text_length = take_number(from), order_length = take_number(from), fates_length = take_number(from);
+static void read_table(struct frame *from, struct frame *to) {
+    size_t text_length = take_number(from);
     uint8_t *text = take_buffer(from, text_length);
+    struct cuddlelamb_table_answer answer = cuddlelamb_read(text, text_length);
+    give(to, &answer, sizeof answer);
+    free(text);
+}
+
+static void plan(struct frame *from, struct frame *to) {
+    struct cuddlelamb_table table;
+    take(from, &table, sizeof table);
+    uint64_t budget = take_number(from);
+    size_t order_length = take_number(from), fates_length = take_number(from);
     uint64_t *order = take_buffer(from, order_length * sizeof *order);
     uint64_t *fates = take_buffer(from, fates_length * sizeof *fates);
-    struct cuddlelamb_plan_answer answer = cuddlelamb_plan(text, text_length, order, order_length, fates, fates_length);
+    struct cuddlelamb_plan_answer answer = cuddlelamb_plan(table, budget, order, order_length, fates, fates_length);
     give(to, &answer, sizeof answer);
     give(to, order, order_length * sizeof *order);
     give(to, fates, fates_length * sizeof *fates);
-    free(text);
     free(order);
     free(fates);
 }
@@ -102,12 +112,16 @@ static void list(struct frame *from, struct frame *to) {
     free(out);
 }
 
-static void read_table(struct frame *from, struct frame *to) {
-    size_t text_length = take_number(from);
+static void list_with_budget(struct frame *from, struct frame *to) {
+    uint64_t budget = take_number(from);
+    size_t text_length = take_number(from), out_length = take_number(from);
     uint8_t *text = take_buffer(from, text_length);
-    struct cuddlelamb_table_answer answer = cuddlelamb_read(text, text_length);
+    uint8_t *out = take_buffer(from, out_length);
+    struct cuddlelamb_text_answer answer = cuddlelamb_list_with_budget(text, text_length, budget, out, out_length);
     give(to, &answer, sizeof answer);
+    give(to, out, out_length);
     free(text);
+    free(out);
 }
 
 static void write_table(struct frame *from, struct frame *to) {
@@ -134,9 +148,10 @@ static void costs(struct frame *from, struct frame *to) {
 
 static void answer_request(struct frame *from, struct frame *to) {
     switch (take_number(from)) {
+    case READ: read_table(from, to); break;
     case PLAN: plan(from, to); break;
     case LIST: list(from, to); break;
-    case READ: read_table(from, to); break;
+    case LIST_WITH_BUDGET: list_with_budget(from, to); break;
     case WRITE: write_table(from, to); break;
     case ALLOCATE: allocate(from, to); break;
     case COSTS: costs(from, to); break;

@@ -1,26 +1,31 @@
-//! Changes of a table that must not change its plan: the same jobs, by their places, in the same order, with the same
-//! fates, at the same speed.
+//! Changes of a table, or of the budget beside it, that must not change the plan: the same jobs, by their places, in the
+//! same order, with the same fates, at the same speed.
 
-use crate::generate::Random;
+use crate::generate::{self, Random};
 use crate::naive::Answer;
 use crate::reference::{Speed, Table, HOLDS, LAST_NUMBER, LAST_TIME, MOST_BUDGET, MOST_COST, MOST_WORTH};
 
-/// A changed table, and what the change multiplies its plan's energy by.
+/// A changed table with the budget beside it, and what the change multiplies the plan's energy by.
 pub struct Change {
     pub what: &'static str,
     pub table: Table,
+    pub budget: u64,
     pub factor: u64,
 }
 
-/// The five changes of a valid table; each gives a valid table.
-pub fn changes(random: &mut Random, table: &Table) -> [Change; 5] {
-    let change = |what: &'static str, table: Table| Change { what, table, factor: 1 };
+/// The seven changes of a valid table with a good budget beside it; each gives a valid table with a good budget.
+pub fn changes(random: &mut Random, table: &Table, budget: u64) -> [Change; 7] {
+    let change = |what: &'static str, table: Table| Change { what, table, budget, factor: 1 };
     let shifted = change("shifting all times", with_shifted_times(random, table));
     let scaled = change("scaling all worths", with_scaled_worths(random, table));
     let renamed = change("renaming resources", with_renamed_resources(random, table));
     let renumbered = change("renumbering jobs", with_renumbered_jobs(random, table));
-    let (costs, factor) = with_scaled_costs(random, table);
-    [shifted, scaled, renamed, renumbered, Change { what: "scaling costs with the budget", table: costs, factor }]
+    let costs = with_scaled_costs(random, table, budget);
+    let own = Table { budget: random.within(0, MOST_BUDGET), ..*table };
+    let own = change("giving the table another budget of its own", own);
+    let mut filled = *table;
+    generate::fill_unused(random, &mut filled);
+    [shifted, scaled, renamed, renumbered, costs, own, change("filling unused places", filled)]
 }
 
 impl Change {
@@ -63,14 +68,13 @@ fn with_scaled_worths(random: &mut Random, table: &Table) -> Table {
     changed
 }
 
-/// All costs and the budget times the same number, which is given with the table.
-fn with_scaled_costs(random: &mut Random, table: &Table) -> (Table, u64) {
+/// All costs and the budget beside the table times the same number.
+fn with_scaled_costs(random: &mut Random, table: &Table, budget: u64) -> Change {
     let mut changed = *table;
     let greatest = table.speeds.iter().map(|speed| speed.cost).max().unwrap_or(1);
-    let factor = random.within(1, (MOST_COST / greatest).min(MOST_BUDGET / table.budget.max(1)));
+    let factor = random.within(1, (MOST_COST / greatest).min(MOST_BUDGET / budget.max(1)));
     changed.speeds.iter_mut().for_each(|speed: &mut Speed| speed.cost *= factor);
-    changed.budget *= factor;
-    (changed, factor)
+    Change { what: "scaling costs with the budget", table: changed, budget: budget * factor, factor }
 }
 
 /// Every resource under another name; the H lines are put in order again.

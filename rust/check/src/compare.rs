@@ -4,7 +4,9 @@
 use crate::generate::{self, Random};
 use crate::library::{Answer, Request, Told};
 use crate::naive;
-use crate::reference::{self, Plan, Table, LONGEST_LISTING, LONGEST_TEXT, MOST_ASSURANCE, MOST_MEAN, MOST_VARIANCE};
+use crate::reference::{
+    self, Plan, Refused, Table, LONGEST_LISTING, LONGEST_TEXT, MOST_ASSURANCE, MOST_MEAN, MOST_VARIANCE,
+};
 use crate::Library;
 
 /// How many cases are put to the library at once.
@@ -32,22 +34,15 @@ pub type Expected = fn(&Request) -> Answer;
 /// What the reference answers.
 pub fn by_reference(request: &Request) -> Answer {
     match request {
-        Request::Plan { text, order, fates } => {
-            let (mut order, mut fates) = (order.clone(), fates.clone());
-            let told = Told::of(reference::plan(text, &mut order, &mut fates), Plan::default());
-            Answer::Plan { told, order, fates }
-        }
-        Request::List { text, out } => {
-            let mut out = out.clone();
-            let told = Told::of(reference::list(text, &mut out), 0);
-            Answer::Text { told, out }
-        }
         Request::Read { text } => Answer::Table { told: Box::new(Told::of(reference::read(text), Table::EMPTY)) },
-        Request::Write { table, out } => {
-            let mut out = out.clone();
-            let told = Told::of(reference::write(table, &mut out), 0);
-            Answer::Text { told, out }
+        Request::Plan { table, budget, order, fates } => {
+            plan_answer(order, fates, |order, fates| reference::plan(table, *budget, order, fates))
         }
+        Request::List { text, out } => text_answer(out, |out| reference::list(text, out)),
+        Request::ListWithBudget { text, budget, out } => {
+            text_answer(out, |out| reference::list_with_budget(text, *budget, out))
+        }
+        Request::Write { table, out } => text_answer(out, |out| reference::write(table, out)),
         Request::Allocate { mean, variance, assurance } => {
             Answer::Cycles { told: Told::of(reference::allocate(*mean, *variance, *assurance), 0) }
         }
@@ -58,27 +53,40 @@ pub fn by_reference(request: &Request) -> Answer {
 /// What the naive one answers.
 pub fn by_naive(request: &Request) -> Answer {
     match request {
-        Request::Plan { text, order, fates } => {
-            let (mut order, mut fates) = (order.clone(), fates.clone());
-            let told = Told::of(naive::plan_into(text, &mut order, &mut fates), Plan::default());
-            Answer::Plan { told, order, fates }
-        }
-        Request::List { text, out } => {
-            let mut out = out.clone();
-            let told = Told::of(naive::write_into(&naive::list(text), &mut out), 0);
-            Answer::Text { told, out }
-        }
         Request::Read { text } => Answer::Table { told: Box::new(Told::of(naive::read(text), Table::EMPTY)) },
+        Request::Plan { table, budget, order, fates } => {
+            plan_answer(order, fates, |order, fates| naive::plan_into(table, *budget, order, fates))
+        }
+        Request::List { text, out } => text_answer(out, |out| naive::write_into(&naive::list(text), out)),
+        Request::ListWithBudget { text, budget, out } => {
+            text_answer(out, |out| naive::write_into(&naive::list_with_budget(text, *budget), out))
+        }
         Request::Write { table, out } => {
-            let mut out = out.clone();
-            let told = Told::of(naive::write(table).and_then(|text| naive::write_into(&text, &mut out)), 0);
-            Answer::Text { told, out }
+            text_answer(out, |out| naive::write(table).and_then(|text| naive::write_into(&text, out)))
         }
         Request::Allocate { mean, variance, assurance } => {
             Answer::Cycles { told: Told::of(naive::allocate(*mean, *variance, *assurance), 0) }
         }
         Request::Costs { model } => Answer::Costs { told: Told::of(naive::costs(*model), [0; 7]) },
     }
+}
+
+/// What a call answers that plans into copies of these buffers.
+fn plan_answer(
+    order: &[u64],
+    fates: &[u64],
+    call: impl FnOnce(&mut [u64], &mut [u64]) -> Result<Plan, Refused>,
+) -> Answer {
+    let (mut order, mut fates) = (order.to_vec(), fates.to_vec());
+    let told = Told::of(call(&mut order, &mut fates), Plan::default());
+    Answer::Plan { told, order, fates }
+}
+
+/// What a call answers that writes into a copy of this buffer.
+fn text_answer(out: &[u8], call: impl FnOnce(&mut [u8]) -> Result<usize, Refused>) -> Answer {
+    let mut out = out.to_vec();
+    let told = Told::of(call(&mut out), 0);
+    Answer::Text { told, out }
 }
 
 /// Compares the cases from one index up to another; a difference is given as it is to be printed.
@@ -110,28 +118,45 @@ pub fn requests_of(library: &mut Library, expected: Expected, requests: &[Reques
     Ok(tally)
 }
 
-/// The calls of one case: a valid table read, planned, listed and written; a damaged text read, listed and planned; a
-/// rough table written; an allocation and a cost model.
+/// The calls of one case. A valid text is read and listed, and its table planned with its own budget and with others, and
+/// written. A damaged text is read and listed, and what came of it planned, which is the table without records where the
+/// text is refused. A rough table is planned and written. An allocation and the costs of a model are asked.
 pub fn case(seed: u64, index: u64) -> Vec<Request> {
     let random = &mut Random::new(seed, index ^ 1 << 63);
     let table = generate::table(seed, index);
     let text = generate::text_of(&table);
     let damaged = generate::damaged_text(seed, index);
+    let read = reference::read(&damaged).unwrap_or(Table::EMPTY);
     let rough = generate::rough_table(seed, index);
-    let (order, fates) = filled_buffers(random);
-    let (short_order, short_fates) = generate::buffers(seed, index);
     vec![
         Request::Read { text: text.clone() },
-        Request::Plan { text: text.clone(), order, fates },
+        planning(&table, table.budget, filled_buffers(random)),
+        planning_with_budget(random, &table, true),
+        planning_with_budget(random, &table, false),
         listing(random, &text),
+        listing_with_budget(random, &text, &table),
         writing(random, &table),
         Request::Read { text: damaged.clone() },
+        planning_with_budget(random, &read, false),
         listing(random, &damaged),
-        Request::Plan { text: damaged, order: short_order, fates: short_fates },
+        listing_with_budget(random, &damaged, &read),
+        planning_with_budget(random, &rough, true),
+        planning_with_budget(random, &rough, false),
         writing(random, &rough),
         allocation(random),
         Request::Costs { model: if random.chance(80) { random.below(6) } else { random.number() } },
     ]
+}
+
+fn planning(table: &Table, budget: u64, (order, fates): (Vec<u64>, Vec<u64>)) -> Request {
+    Request::Plan { table: Box::new(*table), budget, order, fates }
+}
+
+/// Any table planned with a budget beside it, into buffers with room or into any.
+fn planning_with_budget(random: &mut Random, table: &Table, with_room: bool) -> Request {
+    let budget = generate::budget_beside(random, table);
+    let buffers = if with_room { filled_buffers(random) } else { generate::buffers(random.number(), random.number()) };
+    planning(table, budget, buffers)
 }
 
 /// Two buffers that are long enough, full of anything.
@@ -160,6 +185,13 @@ pub fn listing(random: &mut Random, text: &[u8]) -> Request {
     Request::List { text: text.to_vec(), out: room(random, needed, LONGEST_LISTING) }
 }
 
+/// The listing of a text with a budget beside the table that was read from it.
+fn listing_with_budget(random: &mut Random, text: &[u8], read: &Table) -> Request {
+    let budget = generate::budget_beside(random, read);
+    let needed = reference::list_with_budget(text, budget, &mut [0; LONGEST_LISTING]).unwrap_or(LONGEST_LISTING);
+    Request::ListWithBudget { text: text.to_vec(), budget, out: room(random, needed, LONGEST_LISTING) }
+}
+
 pub fn writing(random: &mut Random, table: &Table) -> Request {
     let needed = reference::write(table, &mut [0; LONGEST_TEXT]).unwrap_or(LONGEST_TEXT);
     Request::Write { table: Box::new(*table), out: room(random, needed, LONGEST_TEXT) }
@@ -182,17 +214,23 @@ pub fn allocation(random: &mut Random) -> Request {
 /// A request with both answers, the table as its text.
 fn difference(request: &Request, expected: &Answer, given: &Answer) -> String {
     let call = match request {
-        Request::Plan { text, order, fates } => {
-            format!("plan into {} and {} places of\n{}", order.len(), fates.len(), String::from_utf8_lossy(text))
+        Request::Read { text } => format!("read\n{}", String::from_utf8_lossy(text)),
+        Request::Plan { table, budget, order, fates } => {
+            let places = (order.len(), fates.len());
+            format!("plan with budget {budget} into {places:?} places, {}", shown(table))
         }
         Request::List { text, out } => format!("list into {} bytes\n{}", out.len(), String::from_utf8_lossy(text)),
-        Request::Read { text } => format!("read\n{}", String::from_utf8_lossy(text)),
-        Request::Write { table, out } => {
-            let counts = (table.speed_count, table.job_count, table.hold_count);
-            let text = generate::text_of(table);
-            format!("write, counts {counts:?}, into {} bytes\n{}", out.len(), String::from_utf8_lossy(&text))
+        Request::ListWithBudget { text, budget, out } => {
+            format!("list with budget {budget} into {} bytes\n{}", out.len(), String::from_utf8_lossy(text))
         }
+        Request::Write { table, out } => format!("write into {} bytes, {}", out.len(), shown(table)),
         other => format!("{other:?}\n"),
     };
     format!("{call}expected: {expected:?}\ngiven:    {given:?}")
+}
+
+/// A table by its counts and the text of the records in their places.
+fn shown(table: &Table) -> String {
+    let counts = (table.speed_count, table.job_count, table.hold_count);
+    format!("counts {counts:?}\n{}", String::from_utf8_lossy(&generate::text_of(table)))
 }

@@ -1,10 +1,11 @@
-//! Cases to try: tables, texts and buffers, each made from a seed and an index alone, so that a failing one can be made
-//! again. The tables lean to what goes wrong first: waiting, rings, equal ratios, keys and costs, costs that are least
-//! between the lowest speed and the top, and ends that are exactly in time or within budget, or one short of it.
+//! Cases to try: tables, budgets beside them, texts and buffers, each made from a seed and an index alone, so that a
+//! failing one can be made again. The tables lean to what goes wrong first: waiting, rings, equal ratios, keys and costs,
+//! costs that are least between the lowest speed and the top, and ends that are exactly in time or within budget, or one
+//! short of it. The budgets beside them lean to those with which a plan just stays, or just becomes another.
 
 use crate::reference::{
-    plan_table, Hold, Job, Speed, Table, COSTS, HOLDS, JOBS, LAST_NUMBER, LAST_RESOURCE, LAST_TIME, MOST_BUDGET,
-    MOST_COST, MOST_CYCLES, MOST_MHZ, MOST_WORTH, SPEEDS, SUPPLIED_SPEEDS,
+    plan, Hold, Job, Speed, Table, COSTS, HOLDS, JOBS, LAST_NUMBER, LAST_RESOURCE, LAST_TIME, MOST_BUDGET, MOST_COST,
+    MOST_CYCLES, MOST_MHZ, MOST_WORTH, SPEEDS, SUPPLIED_SPEEDS,
 };
 
 /// A row of numbers that looks random and is always the same for a seed and an index (splitmix64).
@@ -372,11 +373,10 @@ fn budget(random: &mut Random, table: &Table) -> u64 {
 /// Leaves the plan of the table so far a choice between speeds: each of its jobs that has less time than it needs at
 /// one of them gets that much.
 fn make_choice(random: &mut Random, table: &mut Table) {
-    let mut order = [0; JOBS];
-    let plan = plan_table(table, &mut order, &mut [0; JOBS]);
+    let order = planned(table, table.budget).expect("a valid table");
     let speed = random.one_of(&table.speeds[..table.speed_count]);
     let mut cycles = 0;
-    for number in &order[..plan.count] {
+    for number in &order {
         if let Some(job) = table.jobs.iter_mut().find(|job| job.number == *number) {
             cycles += job.cycles;
             let end = table.clock + (cycles * 1000).div_ceil(speed.mhz);
@@ -389,12 +389,11 @@ fn make_choice(random: &mut Random, table: &mut Table) {
 /// termination of a planned job, often at a cheapest speed, or the budget, often at a speed that costs more than the
 /// top speed, so that the plan stays.
 fn make_tie(random: &mut Random, table: &mut Table) {
-    let mut order = [0; JOBS];
-    let plan = plan_table(table, &mut order, &mut [0; JOBS]);
-    if plan.count == 0 {
+    let order = planned(table, table.budget).expect("a valid table");
+    if order.is_empty() {
         return;
     }
-    let upto = if random.chance(50) { plan.count - 1 } else { random.below(plan.count as u64) as usize };
+    let upto = if random.chance(50) { order.len() - 1 } else { random.below(order.len() as u64) as usize };
     let place = |number: u64| table.jobs[..table.job_count].iter().position(|job| job.number == number);
     let places: Vec<usize> = order[..=upto].iter().filter_map(|number| place(*number)).collect();
     let cycles: u64 = places.iter().map(|place| table.jobs[*place].cycles).sum();
@@ -417,6 +416,53 @@ fn often(random: &mut Random, speeds: &[Speed], wanted: impl Fn(&Speed) -> bool)
     let wanted: Vec<Speed> = speeds.iter().filter(|speed| wanted(speed)).copied().collect();
     let any = wanted.is_empty() || random.chance(50);
     random.one_of(if any { speeds } else { &wanted })
+}
+
+/// The planned jobs, where the table is not refused with this budget.
+fn planned(table: &Table, budget: u64) -> Option<Vec<u64>> {
+    let mut order = [0; JOBS];
+    let plan = plan(table, budget, &mut order, &mut [0; JOBS]).ok()?;
+    Some(order[..plan.count].to_vec())
+}
+
+// ---- Budgets beside a table ------------------------------------------------------------------------------------------
+
+/// A budget to be given beside any table: its own, another table's, an end of the range or what lies beyond it, or, most
+/// often, what decides about a job.
+pub fn budget_beside(random: &mut Random, table: &Table) -> u64 {
+    match random.below(10) {
+        0..=1 => table.budget,
+        2 => self::table(random.number(), random.number()).budget,
+        3 => random.one_of(&[0, 1, MOST_BUDGET - 1, MOST_BUDGET]),
+        4 => budget_beyond(random),
+        _ => deciding_budget(random, table).unwrap_or_else(|| random.below(MOST_BUDGET + 1)),
+    }
+}
+
+/// A budget out of its range, by one or by more.
+fn budget_beyond(random: &mut Random) -> u64 {
+    match random.below(4) {
+        0..=1 => MOST_BUDGET + 1,
+        2 => random.one_of(&[u64::MAX, u64::MAX - 1, 1 << 63, 1 << 62, 10 * MOST_BUDGET]),
+        _ => random.within(MOST_BUDGET + 1, u64::MAX),
+    }
+}
+
+/// What all cycles of a plan of a good table take, often with those of a job that is not in it: at the top speed, as a
+/// trial is reckoned, or now and then at another; just that, or one unit off.
+fn deciding_budget(random: &mut Random, table: &Table) -> Option<u64> {
+    let most = planned(table, MOST_BUDGET)?;
+    let (jobs, speeds) = (&table.jobs[..table.job_count], &table.speeds[..table.speed_count]);
+    let top = speeds[speeds.len() - 1];
+    let all: u64 = jobs.iter().map(|job| job.cycles).sum();
+    let order = if random.chance(30) { most } else { planned(table, random.below(all * top.cost + 1))? };
+    let (inside, outside): (Vec<Job>, Vec<Job>) = jobs.iter().copied().partition(|job| order.contains(&job.number));
+    let mut cycles: u64 = inside.iter().map(|job| job.cycles).sum();
+    if !outside.is_empty() && random.chance(50) {
+        cycles += random.one_of(&outside).cycles;
+    }
+    let speed = if random.chance(80) { top } else { random.one_of(speeds) };
+    Some((cycles * speed.cost + random.below(3)).saturating_sub(1))
 }
 
 // ---- Texts -----------------------------------------------------------------------------------------------------------
@@ -600,10 +646,10 @@ fn damage_whole(random: &mut Random, text: &mut Vec<u8>) {
     }
 }
 
-// ---- Tables as they may be handed to the writer ----------------------------------------------------------------------
+// ---- Tables as they may be handed to the planner and to the writer ---------------------------------------------------
 
-/// Any table: a valid one with anything in its unused places and, more often than not, with damaged fields or with
-/// counts that do not belong to it.
+/// Any table: a valid one with anything in its unused places and, more often than not, with damaged fields, with
+/// counts that do not belong to it, or with a budget of its own that is out of range.
 pub fn rough_table(seed: u64, index: u64) -> Table {
     let random = &mut Random::new(seed, index);
     let mut table = table(seed, random.number());
@@ -615,6 +661,9 @@ pub fn rough_table(seed: u64, index: u64) -> Table {
     }
     if random.chance(40) {
         damage_counts(random, &mut table);
+    }
+    if random.chance(15) {
+        table.budget = budget_beyond(random);
     }
     table
 }
@@ -629,7 +678,7 @@ fn rubbish(random: &mut Random) -> u64 {
 }
 
 /// Fills the places beyond the counts with anything, which is now and then good records.
-fn fill_unused(random: &mut Random, table: &mut Table) {
+pub fn fill_unused(random: &mut Random, table: &mut Table) {
     let good = random.chance(30);
     for (place, speed) in table.speeds.iter_mut().enumerate().skip(table.speed_count) {
         *speed = Speed { mhz: rubbish(random), cost: rubbish(random) };

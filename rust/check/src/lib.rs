@@ -2,9 +2,10 @@
 //!
 //! `reference` is the whole of the document, without heap and without floats; `naive` says the same again, slowly and
 //! sentence by sentence, so that the two can be held against each other, and the library against both. `generate` makes
-//! the tables, texts and buffers on which that is done, each from a seed and an index; `change` changes a table so that
-//! its plan must stay; `compare` holds the library against either of them. `library` is the library's calls as data, and
-//! `Library` answers them: linked, through the wrapper, where something can be linked; elsewhere by a server process.
+//! the tables, budgets, texts and buffers on which that is done, each from a seed and an index; `change` changes a table
+//! so that its plan must stay; `compare` holds the library against either of them. `library` is the library's calls as
+//! data, and `Library` answers them: linked, through the wrapper, where something can be linked; elsewhere by a server
+//! process.
 
 #![forbid(unsafe_code)]
 

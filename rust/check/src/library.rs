@@ -23,9 +23,10 @@ impl<Value> Told<Value> {
 /// A call, with the buffers as they are lent.
 #[derive(Clone, Debug, PartialEq, Eq)]
 pub enum Request {
-    Plan { text: Vec<u8>, order: Vec<u64>, fates: Vec<u64> },
-    List { text: Vec<u8>, out: Vec<u8> },
     Read { text: Vec<u8> },
+    Plan { table: Box<Table>, budget: u64, order: Vec<u64>, fates: Vec<u64> },
+    List { text: Vec<u8>, out: Vec<u8> },
+    ListWithBudget { text: Vec<u8>, budget: u64, out: Vec<u8> },
     Write { table: Box<Table>, out: Vec<u8> },
     Allocate { mean: u64, variance: u64, assurance: u64 },
     Costs { model: u64 },
@@ -34,9 +35,9 @@ pub enum Request {
 /// What a call told, with the buffers as it left them.
 #[derive(Clone, Debug, PartialEq, Eq)]
 pub enum Answer {
+    Table { told: Box<Told<Table>> },
     Plan { told: Told<Plan>, order: Vec<u64>, fates: Vec<u64> },
     Text { told: Told<usize>, out: Vec<u8> },
-    Table { told: Box<Told<Table>> },
     Cycles { told: Told<u64> },
     Costs { told: Told<[u64; 7]> },
 }
@@ -45,9 +46,9 @@ impl Answer {
     /// The refusal's number, or 0.
     pub fn number(&self) -> u64 {
         match self {
+            Answer::Table { told } => told.number,
             Answer::Plan { told, .. } => told.number,
             Answer::Text { told, .. } => told.number,
-            Answer::Table { told } => told.number,
             Answer::Cycles { told } => told.number,
             Answer::Costs { told } => told.number,
         }

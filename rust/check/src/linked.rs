@@ -21,9 +21,10 @@ impl Library {
 
 fn answer(request: &Request) -> Answer {
     match request {
-        Request::Plan { text, order, fates } => {
+        Request::Read { text } => Answer::Table { told: Box::new(told(calls::read(text), own_table)) },
+        Request::Plan { table, budget, order, fates } => {
             let (mut order, mut fates) = (order.clone(), fates.clone());
-            let told = told(calls::plan(text, &mut order, &mut fates), own_plan);
+            let told = told(calls::plan(&wrappers_table(table), *budget, &mut order, &mut fates), own_plan);
             Answer::Plan { told, order, fates }
         }
         Request::List { text, out } => {
@@ -31,7 +32,11 @@ fn answer(request: &Request) -> Answer {
             let told = told(calls::list(text, &mut out), |length| length);
             Answer::Text { told, out }
         }
-        Request::Read { text } => Answer::Table { told: Box::new(told(calls::read(text), own_table)) },
+        Request::ListWithBudget { text, budget, out } => {
+            let mut out = out.clone();
+            let told = told(calls::list_with_budget(text, *budget, &mut out), |length| length);
+            Answer::Text { told, out }
+        }
         Request::Write { table, out } => {
             let mut out = out.clone();
             let told = told(calls::write(&wrappers_table(table), &mut out), |length| length);

@@ -57,29 +57,35 @@ fn put_numbers(frame: &mut Vec<u8>, numbers: &[u64]) {
 
 fn put_request(frame: &mut Vec<u8>, request: &Request) {
     match request {
-        Request::Plan { text, order, fates } => {
-            put_numbers(frame, &[1, text.len() as u64, order.len() as u64, fates.len() as u64]);
+        Request::Read { text } => {
+            put_numbers(frame, &[1, text.len() as u64]);
             frame.extend_from_slice(text);
+        }
+        Request::Plan { table, budget, order, fates } => {
+            put_numbers(frame, &[2]);
+            put_table(frame, table);
+            put_numbers(frame, &[*budget, order.len() as u64, fates.len() as u64]);
             put_numbers(frame, order);
             put_numbers(frame, fates);
         }
         Request::List { text, out } => {
-            put_numbers(frame, &[2, text.len() as u64, out.len() as u64]);
+            put_numbers(frame, &[3, text.len() as u64, out.len() as u64]);
             frame.extend_from_slice(text);
             frame.extend_from_slice(out);
         }
-        Request::Read { text } => {
-            put_numbers(frame, &[3, text.len() as u64]);
+        Request::ListWithBudget { text, budget, out } => {
+            put_numbers(frame, &[4, *budget, text.len() as u64, out.len() as u64]);
             frame.extend_from_slice(text);
+            frame.extend_from_slice(out);
         }
         Request::Write { table, out } => {
-            put_numbers(frame, &[4]);
+            put_numbers(frame, &[5]);
             put_table(frame, table);
             put_numbers(frame, &[out.len() as u64]);
             frame.extend_from_slice(out);
         }
-        Request::Allocate { mean, variance, assurance } => put_numbers(frame, &[5, *mean, *variance, *assurance]),
-        Request::Costs { model } => put_numbers(frame, &[6, *model]),
+        Request::Allocate { mean, variance, assurance } => put_numbers(frame, &[6, *mean, *variance, *assurance]),
+        Request::Costs { model } => put_numbers(frame, &[7, *model]),
     }
 }
 
@@ -123,6 +129,7 @@ impl Rest<'_> {
 
     fn answer(&mut self, request: &Request) -> Answer {
         match request {
+            Request::Read { .. } => Answer::Table { told: Box::new(self.told(Self::table)) },
             Request::Plan { order, fates, .. } => Answer::Plan {
                 told: self.told(|rest| Plan {
                     count: rest.number() as usize,
@@ -132,10 +139,9 @@ impl Rest<'_> {
                 order: self.numbers(order.len()),
                 fates: self.numbers(fates.len()),
             },
-            Request::List { out, .. } | Request::Write { out, .. } => {
+            Request::List { out, .. } | Request::ListWithBudget { out, .. } | Request::Write { out, .. } => {
                 Answer::Text { told: self.told(|rest| rest.number() as usize), out: self.bytes(out.len()) }
             }
-            Request::Read { .. } => Answer::Table { told: Box::new(self.told(Self::table)) },
             Request::Allocate { .. } => Answer::Cycles { told: self.told(Self::number) },
             Request::Costs { .. } => Answer::Costs { told: self.told(|rest| std::array::from_fn(|_| rest.number())) },
         }

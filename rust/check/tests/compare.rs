@@ -6,7 +6,7 @@ use cuddlelamb_check::change::changes;
 use cuddlelamb_check::compare::{by_naive, by_reference, cases, requests_of, Expected};
 use cuddlelamb_check::generate::{self, Random};
 use cuddlelamb_check::library::{Answer, Request};
-use cuddlelamb_check::reference::{self, Table, JOBS, LONGEST_LISTING};
+use cuddlelamb_check::reference::{self, Table, JOBS, LONGEST_LISTING, MOST_BUDGET};
 use cuddlelamb_check::{naive, Library};
 
 /// Every generated case is made from this and an index.
@@ -44,14 +44,21 @@ const CASE_S: &[u8] = b"T\t0\t2500000000\nF\t500\t700000\nF\t1000\t1000000\nJ\t1
     J\t2\t1000\t90\t2000\t2000\t1\nJ\t3\t500\t10\t5000\t5000\t0\nJ\t4\t2000\t40\t4000\t4000\t0\n\
     J\t5\t3000\t1\t2500\t2500\t0\nH\t1\t3\n";
 
+fn table_s() -> Table {
+    reference::read(CASE_S).expect("a good text")
+}
+
 /// Listings and texts into buffers of every length up to some more than they need.
 #[test]
 fn room_for_listings_and_texts() {
     let mut requests = Vec::new();
-    for (text, table) in [(CASE_S.to_vec(), reference::read(CASE_S)), (b"X".to_vec(), Ok(Table::EMPTY))] {
+    for (text, table) in [(CASE_S.to_vec(), table_s()), (b"X".to_vec(), Table::EMPTY)] {
         for length in 0..=CASE_S.len() + 9 {
             requests.push(Request::List { text: text.clone(), out: vec![9; length] });
-            requests.push(Request::Write { table: Box::new(table.expect("a good text")), out: vec![9; length] });
+            for budget in [2_499_999_999, MOST_BUDGET + 1] {
+                requests.push(Request::ListWithBudget { text: text.clone(), budget, out: vec![9; length] });
+            }
+            requests.push(Request::Write { table: Box::new(table), out: vec![9; length] });
         }
     }
     println!("seed {SEED}");
@@ -68,16 +75,36 @@ fn room_for_listings_and_texts() {
     assert_same(&requests);
 }
 
-/// Plans into buffers of every length up to 130 places, of a good and of a bad text.
+/// A plan into buffers of so many places.
+fn planning(table: &Table, budget: u64, order: usize, fates: usize) -> Request {
+    Request::Plan { table: Box::new(*table), budget, order: vec![7; order], fates: vec![8; fates] }
+}
+
+/// Plans into buffers of every length up to 130 places, of a good and of a bad table with a good and with a bad budget.
 #[test]
 fn room_for_plans() {
     let mut requests = Vec::new();
     for length in 0..=130 {
         for (order, fates) in [(length, 64), (64, length), (length, length)] {
-            for text in [CASE_S, b"X"] {
-                requests.push(Request::Plan { text: text.to_vec(), order: vec![7; order], fates: vec![8; fates] });
+            for table in [table_s(), Table::EMPTY, Table { budget: MOST_BUDGET + 1, ..table_s() }] {
+                requests.extend([0, MOST_BUDGET + 1].map(|budget| planning(&table, budget, order, fates)));
             }
         }
+    }
+    assert_same(&requests);
+}
+
+/// A knob that is turned from nothing past what all jobs of a table take, in steps and at the ends of the range.
+#[test]
+fn one_table_and_many_budgets() {
+    println!("seed {SEED}");
+    let mut requests = Vec::new();
+    for table in (0..50).map(|index| generate::table(SEED, index)).chain([table_s(), Table::EMPTY]) {
+        let top = table.speeds[table.speed_count.saturating_sub(1)].cost;
+        let all: u64 = table.jobs.iter().map(|job| job.cycles).sum();
+        let steps = (0..=100).map(|step| all * top * step / 90);
+        let ends = [1, MOST_BUDGET - 1, MOST_BUDGET, MOST_BUDGET + 1, 1 << 63, u64::MAX];
+        requests.extend(steps.chain(ends).map(|budget| planning(&table, budget, JOBS, JOBS)));
     }
     assert_same(&requests);
 }
@@ -92,7 +119,7 @@ fn long_texts() {
     for tail in far {
         let text = [&longest[..], &tail].concat();
         requests.push(Request::Read { text: tail });
-        requests.push(Request::Plan { text: text.clone(), order: vec![7; 64], fates: vec![8; 64] });
+        requests.push(Request::ListWithBudget { text: text.clone(), budget: 0, out: vec![9; LONGEST_LISTING] });
         requests.push(Request::List { text, out: vec![9; LONGEST_LISTING] });
     }
     assert_same(&requests);
@@ -113,20 +140,18 @@ fn allocations_and_costs() {
     assert_same(&requests);
 }
 
-/// The library's plans of tables, which must be valid.
-fn planned(library: &mut Library, tables: &[Table]) -> Vec<naive::Answer> {
-    let request =
-        |table: &Table| Request::Plan { text: generate::text_of(table), order: vec![7; JOBS], fates: vec![8; JOBS] };
-    let answers = library.answers(&tables.iter().map(request).collect::<Vec<Request>>());
-    let plan = |(answer, table): (Answer, &Table)| match answer {
+/// The library's plans of tables with budgets beside them, which must be good.
+fn planned(library: &mut Library, tables: &[(Table, u64)]) -> Vec<naive::Answer> {
+    let requests: Vec<Request> = tables.iter().map(|(table, budget)| planning(table, *budget, JOBS, JOBS)).collect();
+    let plan = |(answer, (table, budget)): (Answer, &(Table, u64))| match answer {
         Answer::Plan { told, order, fates } if told.number == 0 => naive::Answer {
             plan: told.value,
             order: order[..told.value.count].to_vec(),
             fates: fates[..table.job_count].to_vec(),
         },
-        other => panic!("{other:?} for\n{}", String::from_utf8_lossy(&generate::text_of(table))),
+        other => panic!("{other:?} with budget {budget} for\n{}", String::from_utf8_lossy(&generate::text_of(table))),
     };
-    answers.into_iter().zip(tables).map(plan).collect()
+    library.answers(&requests).into_iter().zip(tables).map(plan).collect()
 }
 
 #[test]
@@ -134,16 +159,19 @@ fn changes_that_leave_the_plan() {
     println!("seed {SEED}");
     let library = &mut Library::open();
     for index in 0..2_000 {
+        let random = &mut Random::new(SEED, !index);
         let table = generate::table(SEED, index);
-        let changes = changes(&mut Random::new(SEED, !index), &table);
-        let tables: Vec<Table> = std::iter::once(table).chain(changes.iter().map(|change| change.table)).collect();
-        let plans = planned(library, &tables);
+        let budget = generate::budget_beside(random, &table).min(MOST_BUDGET);
+        let changes = changes(random, &table, budget);
+        let changed = changes.iter().map(|change| (change.table, change.budget));
+        let plans = planned(library, &std::iter::once((table, budget)).chain(changed).collect::<Vec<_>>());
         for (change, plan) in changes.iter().zip(&plans[1..]) {
             assert!(
                 change.leaves(&table, &plans[0], plan),
-                "{}, seed {SEED}, index {index}:\n{}changed:\n{}",
+                "{}, seed {SEED}, index {index}, budget {budget}:\n{}changed, budget {}:\n{}",
                 change.what,
                 String::from_utf8_lossy(&generate::text_of(&table)),
+                change.budget,
                 String::from_utf8_lossy(&generate::text_of(&change.table))
             );
         }

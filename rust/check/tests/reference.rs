@@ -1,11 +1,14 @@
 //! The reference against the sheet of examples, against each cause of each refusal, against the naive implementation on
-//! generated cases, and against itself where a change of the table must not change the plan.
+//! generated cases, against document 01's one call from a text to a plan, and against itself where a change of the table
+//! must not change the plan.
 
 use cuddlelamb_check::change::changes;
+use cuddlelamb_check::compare::{by_naive, by_reference, case};
 use cuddlelamb_check::generate::{self, Random};
+use cuddlelamb_check::library::Request;
 use cuddlelamb_check::naive;
 use cuddlelamb_check::reference::{
-    allocate, costs, list, plan, plan_table, read, write, Hold, Plan, Refused, Speed, Table, COSTS, HOLDS, JOBS,
+    allocate, costs, list, list_with_budget, plan, read, write, Hold, Plan, Refused, Speed, Table, COSTS, HOLDS, JOBS,
     LAST_TIME, LONGEST_LISTING, LONGEST_TEXT, MOST_BUDGET, MOST_COST, MOST_WORTH, SPEEDS, SUPPLIED_SPEEDS,
 };
 
@@ -20,11 +23,17 @@ fn text(lines: &str) -> Vec<u8> {
     format!("{}\n", lines.replace(" / ", "\n").replace(' ', "\t")).into_bytes()
 }
 
-/// The plan, order and fates of a text, with the places after them checked to be 0.
+/// The plan, order and fates of a text with its own budget.
 fn answer(text: &[u8]) -> (Plan, Vec<u64>, Vec<u64>) {
+    let table = read(text).expect("a good text");
+    answer_with_budget(&table, table.budget)
+}
+
+/// The plan, order and fates of a table, with the places after them checked to be 0.
+fn answer_with_budget(table: &Table, budget: u64) -> (Plan, Vec<u64>, Vec<u64>) {
     let (mut order, mut fates) = ([77; JOBS + 3], [77; JOBS]);
-    let plan = plan(text, &mut order, &mut fates).expect("a good text");
-    let jobs = read(text).expect("a good text").job_count;
+    let plan = plan(table, budget, &mut order, &mut fates).expect("a good table and budget");
+    let jobs = table.job_count;
     assert!(order[plan.count..].iter().chain(&fates[jobs..]).all(|place| *place == 0));
     (plan, order[..plan.count].to_vec(), fates[..jobs].to_vec())
 }
@@ -32,6 +41,12 @@ fn answer(text: &[u8]) -> (Plan, Vec<u64>, Vec<u64>) {
 fn listing(text: &[u8]) -> Vec<u8> {
     let mut out = [0; LONGEST_LISTING];
     let length = list(text, &mut out).expect("room for the longest listing");
+    out[..length].to_vec()
+}
+
+fn listing_with_budget(text: &[u8], budget: u64) -> Vec<u8> {
+    let mut out = [0; LONGEST_LISTING];
+    let length = list_with_budget(text, budget, &mut out).expect("room for the longest listing");
     out[..length].to_vec()
 }
 
@@ -51,6 +66,10 @@ fn shown(index: u64, table: &Table) -> String {
     format!("seed {SEED}, index {index}:\n{}", String::from_utf8_lossy(&generate::text_of(table)))
 }
 
+fn shown_with_budget(index: u64, table: &Table, budget: u64) -> String {
+    format!("budget {budget}, {}", shown(index, table))
+}
+
 // ---- The sheet of examples -------------------------------------------------------------------------------------------
 
 #[test]
@@ -65,10 +84,14 @@ fn case_s() {
 
 #[test]
 fn case_s_with_one_unit_less() {
-    let (plan, order, fates) = answer(&text(&CASE_S.replace("2500000000", "2499999999")));
-    assert_eq!(order, [3, 2]);
-    assert_eq!(fates, [6, 1, 1, 6, 2]);
-    assert_eq!(plan, Plan { count: 2, speed: 1000, energy: 1_500_000_000 });
+    let less = text(&CASE_S.replace("2500000000", "2499999999"));
+    let table = read(&text(CASE_S)).expect("a good text");
+    for (plan, order, fates) in [answer(&less), answer_with_budget(&table, 2_499_999_999)] {
+        assert_eq!(order, [3, 2]);
+        assert_eq!(fates, [6, 1, 1, 6, 2]);
+        assert_eq!(plan, Plan { count: 2, speed: 1000, energy: 1_500_000_000 });
+    }
+    assert_eq!(listing_with_budget(&text(CASE_S), 2_499_999_999), listing(&less));
 }
 
 #[test]
@@ -145,7 +168,7 @@ fn decided_plans() {
 fn chosen(budget: u64, speeds: &str, termination: u64) -> (u64, u64) {
     let whole = text(&format!("T 0 {budget} / {speeds} / J 1 1000 1 {termination} {termination} 0"));
     let (plan, ..) = answer(&whole);
-    assert_eq!(naive::plan(&read(&whole).expect("a good text")).plan, plan);
+    assert_eq!(naive::plan(&read(&whole).expect("a good text"), budget).plan, plan);
     (plan.speed, plan.energy)
 }
 
@@ -389,13 +412,26 @@ fn too_many_lines() {
     assert!(read(&text(&format!("T 0 0 / {} / {}", speeds(16), jobs(64)))).is_ok());
 }
 
-/// A small good table for the writer, to be damaged.
+/// A small good table, to be damaged.
 fn small() -> Table {
     read(&text("T 0 0 / F 500 1 / F 1000 1 / J 5 10 1 100 100 3 / H 1 5")).expect("a good text")
 }
 
+/// Writes and plans a table that is refused: the planner, where buffers and budget are good, as the writer.
+fn assert_refused(table: &Table, number: u64, line: u64, shown: &str) {
+    let (mut order, mut fates, mut out) = ([9; JOBS], [9; JOBS], [9; LONGEST_TEXT]);
+    assert_eq!(write(table, &mut out), Err(refused(number, line)), "{shown}");
+    assert_eq!(write(table, &mut []), Err(refused(number, line)), "{shown} without room");
+    assert_eq!(naive::write(table), Err(refused(number, line)), "{shown}");
+    for budget in [0, MOST_BUDGET] {
+        assert_eq!(plan(table, budget, &mut order, &mut fates), Err(refused(number, line)), "{shown}");
+        assert_eq!(naive::plan_into(table, budget, &mut order, &mut fates), Err(refused(number, line)), "{shown}");
+    }
+    assert_eq!((order, fates, out), ([9; JOBS], [9; JOBS], [9; LONGEST_TEXT]));
+}
+
 #[test]
-fn refusals_of_the_writer() {
+fn refusals_of_tables() {
     type Damage = fn(&mut Table);
     let cases: [(Damage, u64, u64); 26] = [
         (|table| table.clock = LAST_TIME + 1, 2, 1),
@@ -428,36 +464,27 @@ fn refusals_of_the_writer() {
     for (at, (damage, number, line)) in cases.iter().enumerate() {
         let mut table = small();
         damage(&mut table);
-        let mut out = [9; LONGEST_TEXT];
-        assert_eq!(write(&table, &mut out), Err(refused(*number, *line)), "case {at}");
-        assert_eq!(write(&table, &mut []), Err(refused(*number, *line)), "case {at} without room");
-        assert_eq!(naive::write(&table), Err(refused(*number, *line)), "case {at}");
-        assert_eq!(out, [9; LONGEST_TEXT]);
+        assert_refused(&table, *number, *line, &format!("case {at}"));
     }
 }
 
 #[test]
 fn counts_beyond_the_places() {
     let full = read(&generate::longest_text()).expect("a good text");
-    let mut out = [9; LONGEST_TEXT];
     for beyond in [1, 2, usize::MAX - JOBS] {
-        let table = Table { speed_count: SPEEDS + beyond, ..full };
-        assert_eq!(write(&table, &mut out), Err(refused(4, 18)));
-        let table = Table { job_count: JOBS + beyond, ..full };
-        assert_eq!(write(&table, &mut out), Err(refused(4, 82)));
-        let table = Table { speed_count: 2, job_count: JOBS + beyond, ..full };
-        assert_eq!(write(&table, &mut out), Err(refused(4, 68)));
-        let table = Table { hold_count: HOLDS + beyond, ..full };
-        assert_eq!(write(&table, &mut out), Err(refused(3, 114)));
+        let shown = format!("{beyond} beyond");
+        assert_refused(&Table { speed_count: SPEEDS + beyond, ..full }, 4, 18, &shown);
+        assert_refused(&Table { job_count: JOBS + beyond, ..full }, 4, 82, &shown);
+        assert_refused(&Table { speed_count: 2, job_count: JOBS + beyond, ..full }, 4, 68, &shown);
+        assert_refused(&Table { hold_count: HOLDS + beyond, ..full }, 3, 114, &shown);
         let mut table = small();
         for (place, hold) in table.holds.iter_mut().enumerate() {
             *hold = Hold { resource: place as u64 + 1, holder: 5 };
         }
         table.jobs[0].request = 0;
         table.hold_count = HOLDS + beyond;
-        assert_eq!(write(&table, &mut out), Err(refused(3, 37)));
+        assert_refused(&table, 3, 37, &shown);
     }
-    assert_eq!(out, [9; LONGEST_TEXT]);
 }
 
 #[test]
@@ -478,33 +505,66 @@ fn room_for_the_text() {
     }
 }
 
-#[test]
-fn room_for_the_listing() {
-    for lines in [CASE_S, "X"] {
-        let whole = listing(&text(lines));
-        for length in 0..whole.len() + 5 {
-            let mut out = vec![9; length];
-            let answer = list(&text(lines), &mut out);
-            let written = if length < whole.len() { 0 } else { whole.len() };
-            assert_eq!(answer, if written == 0 { Err(refused(8, 0)) } else { Ok(written) });
-            assert_eq!(out[..written], whole[..written]);
-            assert!(out[written..].iter().all(|byte| *byte == 9));
-        }
+/// Writes a listing into buffers of every length up to some more than it needs.
+fn assert_room(whole: &[u8], list: impl Fn(&mut [u8]) -> Result<usize, Refused>) {
+    for length in 0..whole.len() + 5 {
+        let mut out = vec![9; length];
+        let answer = list(&mut out);
+        let written = if length < whole.len() { 0 } else { whole.len() };
+        assert_eq!(answer, if written == 0 { Err(refused(8, 0)) } else { Ok(written) });
+        assert_eq!(out[..written], whole[..written]);
+        assert!(out[written..].iter().all(|byte| *byte == 9));
     }
 }
 
 #[test]
-fn room_for_the_plan() {
-    for (order, fates) in [(63, 64), (64, 63), (0, 0), (63, 1000), (1000, 0)] {
-        for lines in [CASE_S, "X"] {
-            let (mut order, mut fates) = (vec![9; order], vec![9; fates]);
-            assert_eq!(plan(&text(lines), &mut order, &mut fates), Err(refused(8, 0)));
-            assert!(order.iter().chain(&fates).all(|place| *place == 9));
+fn room_for_the_listing() {
+    for lines in [CASE_S, "X"] {
+        assert_room(&listing(&text(lines)), |out| list(&text(lines), out));
+        for budget in [2_499_999_999, MOST_BUDGET + 1] {
+            let whole = listing_with_budget(&text(lines), budget);
+            assert_room(&whole, |out| list_with_budget(&text(lines), budget, out));
         }
     }
-    let (mut order, mut fates) = ([9; 64], [9; 70]);
-    assert_eq!(plan(&text("X"), &mut order, &mut fates), Err(refused(1, 1)));
-    assert!(order.iter().chain(&fates).all(|place| *place == 9));
+}
+
+/// The buffers come first, then the budget beside the table, then the table, whose first record has its own budget.
+#[test]
+fn the_order_of_a_plans_refusals() {
+    let tables = [small(), Table::EMPTY, Table { budget: MOST_BUDGET + 1, ..small() }];
+    let expected = |order, fates, budget, table: &Table| {
+        let short = order < 64 || fates < 64;
+        let own = table.budget > MOST_BUDGET;
+        match (short, budget > MOST_BUDGET, own, table.speed_count) {
+            (true, ..) => Some(refused(8, 0)),
+            (_, true, ..) => Some(refused(2, 1)),
+            (_, _, true, _) => Some(refused(2, 1)),
+            (_, _, _, 0) => Some(refused(3, 2)),
+            _ => None,
+        }
+    };
+    for (order, fates) in [(63, 64), (64, 63), (0, 0), (63, 1000), (1000, 0), (64, 64), (65, 70)] {
+        for (table, budget) in
+            tables.iter().flat_map(|table| [0, MOST_BUDGET, MOST_BUDGET + 1, u64::MAX].map(|budget| (table, budget)))
+        {
+            let expected = expected(order, fates, budget, table);
+            let (mut order, mut fates) = (vec![9; order], vec![9; fates]);
+            assert_eq!(plan(table, budget, &mut order, &mut fates).err(), expected);
+            assert!(expected.is_none() || order.iter().chain(&fates).all(|place| *place == 9));
+        }
+    }
+}
+
+/// The text comes before the budget beside it, and the refusal of either is a listing.
+#[test]
+fn refusals_in_a_listing_with_a_budget() {
+    for budget in [MOST_BUDGET + 1, u64::MAX] {
+        assert_eq!(listing_with_budget(&text(CASE_S), budget), b"R\t2\t1\n");
+        assert_eq!(listing_with_budget(&text("X"), budget), b"R\t1\t1\n");
+        assert_eq!(listing_with_budget(&text("T 0 0"), budget), b"R\t3\t2\n");
+        assert_eq!(listing_with_budget(&text("T 0 1000000000000001"), 0), b"R\t2\t1\n");
+    }
+    assert_eq!(listing_with_budget(&text(CASE_S), 0), b"P\t500\t0\t0\nX\t1\t6\nX\t2\t6\nX\t3\t6\nX\t4\t6\nX\t5\t2\n");
 }
 
 #[test]
@@ -660,20 +720,26 @@ fn rough_tables_against_the_naive() {
 // ---- Plans -----------------------------------------------------------------------------------------------------------
 
 /// The plan of a table with its order and fates, in the form of the naive one.
-fn planned(table: &Table) -> naive::Answer {
-    let (mut order, mut fates) = ([0; JOBS], [0; JOBS]);
-    let plan = plan_table(table, &mut order, &mut fates);
-    naive::Answer { plan, order: order[..plan.count].to_vec(), fates: fates[..table.job_count].to_vec() }
+fn planned(table: &Table, budget: u64) -> naive::Answer {
+    let (plan, order, fates) = answer_with_budget(table, budget);
+    naive::Answer { plan, order, fates }
+}
+
+/// A generated table with its own budget, or with another one that is good.
+fn table_and_budget(index: u64) -> (Table, u64) {
+    let table = generate::table(SEED, index / 2);
+    let beside = generate::budget_beside(&mut Random::new(SEED, !index), &table).min(MOST_BUDGET);
+    (table, if index % 2 == 0 { table.budget } else { beside })
 }
 
 #[test]
 fn plans_against_the_naive() {
     println!("seed {SEED}");
     let (mut fates, mut longest_plan) = ([0; 7], 0);
-    for index in 0..40_000 {
-        let table = generate::table(SEED, index);
-        let answer = planned(&table);
-        assert_eq!(answer, naive::plan(&table), "{}", shown(index, &table));
+    for index in 0..60_000 {
+        let (table, budget) = table_and_budget(index);
+        let answer = planned(&table, budget);
+        assert_eq!(answer, naive::plan(&table, budget), "{}", shown_with_budget(index / 2, &table, budget));
         answer.fates.iter().for_each(|fate| fates[*fate as usize] += 1);
         longest_plan = longest_plan.max(answer.plan.count);
     }
@@ -698,7 +764,7 @@ fn hard_cases_are_among_the_generated() {
     let (mut long_chains, mut several_rings, mut exact_ends, mut exact_budgets) = (0, 0, 0, 0);
     for index in 0..20_000 {
         let table = generate::table(SEED, index);
-        let naive::Answer { plan, order, fates } = planned(&table);
+        let naive::Answer { plan, order, fates } = planned(&table, table.budget);
         long_chains += u64::from(longest_planned_chain(&table, &order) == HOLDS + 1);
         several_rings += u64::from(fates.iter().filter(|fate| **fate == 3).count() > 1);
         exact_budgets += u64::from(plan.count > 0 && plan.energy == table.budget);
@@ -768,7 +834,7 @@ fn misreadings_of_the_speed_are_found_out() {
     println!("seed {SEED}");
     let (mut choices, mut found_out) = (0, [0; MISREADINGS.len()]);
     for table in (0..20_000).map(|index| generate::table(SEED, index)).filter(|table| table.speed_count > 1) {
-        let naive::Answer { plan, order, .. } = naive::plan(&table);
+        let naive::Answer { plan, order, .. } = naive::plan(&table, table.budget);
         choices += 1;
         for (count, taken) in found_out.iter_mut().zip(misread(&table, &order)) {
             *count += u64::from(taken.is_some_and(|speed| speed.mhz != plan.speed));
@@ -818,7 +884,7 @@ fn hard_choices_are_among_the_generated() {
     println!("seed {SEED}");
     let mut counts = [0; 14];
     for table in (0..20_000).map(|index| generate::table(SEED, index)) {
-        let hard = hard_choices(&table, &planned(&table).order);
+        let hard = hard_choices(&table, &planned(&table, table.budget).order);
         counts.iter_mut().zip(hard).for_each(|(count, (_, is_so))| *count += u64::from(is_so));
     }
     let names = hard_choices(&small(), &[]).map(|(name, _)| name);
@@ -827,50 +893,274 @@ fn hard_choices_are_among_the_generated() {
     assert!(counts.iter().all(|count| *count > 100), "{counts:?}");
 }
 
-/// Plans from texts, good and damaged, into buffers of all lengths; the refusal of a buffer comes first, and a refusal
-/// changes nothing.
-#[test]
-fn plans_of_texts_into_buffers() {
-    println!("seed {SEED}");
-    for index in 0..20_000 {
-        let whole = if index % 2 == 0 { generate::text(SEED, index) } else { generate::damaged_text(SEED, index) };
-        let (order, fates) = generate::buffers(SEED, index);
-        let (mut lent_order, mut lent_fates) = (order.clone(), fates.clone());
-        let answer = plan(&whole, &mut lent_order, &mut lent_fates);
-        let shown = format!("seed {SEED}, index {index}:\n{}", String::from_utf8_lossy(&whole));
-        if order.len() < JOBS || fates.len() < JOBS {
-            assert_eq!(answer, Err(refused(8, 0)), "{shown}");
-        } else if let Err(refused) = naive::read(&whole) {
-            assert_eq!(answer, Err(refused), "{shown}");
-        } else {
-            let expected = naive::plan(&naive::read(&whole).expect("a good text"));
-            assert_eq!(answer, Ok(expected.plan), "{shown}");
-            assert!(
-                lent_order.iter().eq(expected.order.iter().chain(std::iter::repeat(&0)).take(order.len())),
-                "{shown}"
-            );
-            assert!(
-                lent_fates.iter().eq(expected.fates.iter().chain(std::iter::repeat(&0)).take(fates.len())),
-                "{shown}"
-            );
-        }
-        if answer.is_err() {
-            assert_eq!((lent_order, lent_fates), (order, fates), "{shown}");
-        }
-    }
-}
-
-/// Listings of texts, good and damaged; what stands behind the first 4,096 bytes does not matter.
+/// Listings of texts, good and damaged; what stands behind the first 4,096 bytes does not matter. With the text's own
+/// budget beside it the listing is the same, and a refused text has the same one with any.
 #[test]
 fn listings_against_the_naive() {
     println!("seed {SEED}");
     for index in 0..20_000 {
-        let whole = if index % 2 == 0 { generate::text(SEED, index) } else { generate::damaged_text(SEED, index) };
+        let whole = text_of_either_kind(index);
         let listed = listing(&whole);
         let shown = || format!("seed {SEED}, index {index}:\n{}", String::from_utf8_lossy(&whole));
         assert_eq!(listed, naive::list(&whole), "{}", shown());
         assert_eq!(listed, listing(&whole[..whole.len().min(4096)]), "{}", shown());
+        let own = read(&whole).map_or(u64::MAX - index, |table| table.budget);
+        assert_eq!(listed, listing_with_budget(&whole, own), "{}", shown());
     }
+}
+
+/// Every call of the cases on which the library is compared.
+#[test]
+fn cases_against_the_naive() {
+    println!("seed {SEED}");
+    let mut numbers = [0; 11];
+    for index in 0..10_000 {
+        for request in case(SEED, index) {
+            let answer = by_reference(&request);
+            assert_eq!(answer, by_naive(&request), "seed {SEED}, index {index}: {request:?}");
+            numbers[answer.number() as usize] += 1;
+        }
+    }
+    println!("answers by number, 0 for none refused: {numbers:?}");
+    assert!(numbers.iter().all(|count| *count > 100), "{numbers:?}");
+}
+
+// ---- Reading once, planning often ------------------------------------------------------------------------------------
+
+/// A good text, or a damaged one.
+fn text_of_either_kind(index: u64) -> Vec<u8> {
+    if index % 2 == 0 {
+        generate::text(SEED, index)
+    } else {
+        generate::damaged_text(SEED, index)
+    }
+}
+
+/// Document 01's planner, which takes a text: it looks at its two lent buffers, then reads, then plans with the budget
+/// that the text says.
+fn plan_text(text: &[u8], order: &mut [u64], fates: &mut [u64]) -> Result<Plan, Refused> {
+    if order.len() < 64 || fates.len() < 64 {
+        return Err(refused(8, 0));
+    }
+    let table = naive::read(text)?;
+    let answer = naive::plan(&table, table.budget);
+    for (lent, numbers) in [(order, answer.order), (fates, answer.fates)] {
+        lent.fill(0);
+        lent[..numbers.len()].copy_from_slice(&numbers);
+    }
+    Ok(answer.plan)
+}
+
+/// Reading, and then planning with the text's own budget, answers as the one call does; they differ exactly where a
+/// buffer is short and the text is refused, since the buffers are looked at after reading.
+#[test]
+fn reading_and_planning_answer_as_one_call() {
+    println!("seed {SEED}");
+    let mut counts = [[0; 2]; 2];
+    for index in 0..40_000 {
+        let whole = text_of_either_kind(index);
+        let (order, fates) = generate::buffers(SEED, index);
+        let (mut by_one, mut by_two) = ((order.clone(), fates.clone()), (order.clone(), fates.clone()));
+        let one = plan_text(&whole, &mut by_one.0, &mut by_one.1);
+        let read = read(&whole);
+        let two = read.and_then(|table| plan(&table, table.budget, &mut by_two.0, &mut by_two.1));
+        let short = order.len() < JOBS || fates.len() < JOBS;
+        let shown = || format!("seed {SEED}, index {index}:\n{}", String::from_utf8_lossy(&whole));
+        match read {
+            Err(bad) if short => assert_eq!((one, two), (Err(refused(8, 0)), Err(bad)), "{}", shown()),
+            _ => assert_eq!(one, two, "{}", shown()),
+        }
+        assert_eq!(by_one, by_two, "{}", shown());
+        assert!(two.is_ok() || by_two == (order, fates), "{}", shown());
+        counts[usize::from(short)][usize::from(read.is_err())] += 1;
+    }
+    println!("with room: {:?} good and refused texts; without: {:?}", counts[0], counts[1]);
+    assert!(counts.iter().flatten().all(|count| *count > 1000), "{counts:?}");
+}
+
+/// What the reference and the naive one make of any table with a budget, which must be the same.
+fn outcome(table: &Table, budget: u64) -> (Result<Plan, Refused>, Vec<u64>, Vec<u64>) {
+    let (mut lent, mut other) = ((vec![77; JOBS], vec![77; JOBS]), (vec![77; JOBS], vec![77; JOBS]));
+    let planned = plan(table, budget, &mut lent.0, &mut lent.1);
+    assert_eq!(planned, naive::plan_into(table, budget, &mut other.0, &mut other.1));
+    assert_eq!(lent, other);
+    (planned, lent.0, lent.1)
+}
+
+/// Planning a table with a budget is planning the same table with that budget in its T line: where both are in range,
+/// the table's own has no say.
+#[test]
+fn a_budget_beside_a_table_is_as_its_own() {
+    println!("seed {SEED}");
+    let (mut good, mut bad) = (0, 0);
+    for index in 0..40_000 {
+        let table = if index % 2 == 0 { generate::table(SEED, index) } else { generate::rough_table(SEED, index) };
+        let budget = generate::budget_beside(&mut Random::new(SEED, !index), &table);
+        if table.budget > MOST_BUDGET || budget > MOST_BUDGET {
+            let refused = Err(refused(2, 1));
+            assert_eq!(outcome(&table, budget).0, refused, "{}", shown_with_budget(index, &table, budget));
+            continue;
+        }
+        let beside = outcome(&table, budget);
+        let own = outcome(&Table { budget, ..table }, budget);
+        assert_eq!(beside, own, "{}", shown_with_budget(index, &table, budget));
+        *(if beside.0.is_ok() { &mut good } else { &mut bad }) += 1;
+    }
+    println!("{good} tables planned, {bad} refused");
+    assert!(good > 10_000 && bad > 5_000, "{good} {bad}");
+}
+
+/// What makes a budget beside a table hard, and whether it does so.
+fn hard_budgets(table: &Table, budget: u64) -> [(&'static str, bool); 8] {
+    let order = |budget: u64| planned(table, budget.min(MOST_BUDGET)).order;
+    let in_range = budget <= MOST_BUDGET;
+    let (with, less, more) = (order(budget), order(budget.saturating_sub(1)), order(budget.saturating_add(1)));
+    [
+        ("out of range", !in_range),
+        ("out of range by one", budget == MOST_BUDGET + 1),
+        ("the greatest", budget == MOST_BUDGET),
+        ("the table's own", budget == table.budget),
+        ("another plan than with the table's own", in_range && with != order(table.budget)),
+        ("another plan with a unit less", in_range && with != less),
+        ("another plan with a unit more", in_range && with != more),
+        ("a unit less plans a job that this does not", in_range && less.iter().any(|job| !with.contains(job))),
+    ]
+}
+
+/// The generator comes to the budgets by which readings of document 02 are told apart.
+#[test]
+fn hard_budgets_are_among_the_generated() {
+    println!("seed {SEED}");
+    let mut counts = [0; 8];
+    for index in 0..20_000 {
+        let table = generate::table(SEED, index);
+        let budget = generate::budget_beside(&mut Random::new(SEED, !index), &table);
+        let hard = hard_budgets(&table, budget);
+        counts.iter_mut().zip(hard).for_each(|(count, (_, is_so))| *count += u64::from(is_so));
+    }
+    println!("of 20000 tables with a budget beside them:");
+    hard_budgets(&small(), 0).iter().zip(counts).for_each(|((name, _), count)| println!("{name}: {count}"));
+    assert!(counts.iter().all(|count| *count > 100), "{counts:?}");
+}
+
+fn check_room(has_room: bool) -> Result<(), Refused> {
+    has_room.then_some(()).ok_or(refused(8, 0))
+}
+
+fn check_budget(budget: u64) -> Result<(), Refused> {
+    (budget <= MOST_BUDGET).then_some(()).ok_or(refused(2, 1))
+}
+
+fn check_records(table: &Table) -> Result<(), Refused> {
+    naive::write(table).map(|_| ())
+}
+
+/// What a reading makes of a table, the budget beside it and whether there is room: the budget that is planned with, or
+/// a refusal.
+type Reading = fn(&Table, u64, bool) -> Result<u64, Refused>;
+
+/// As document 02 has it: the room, then the budget, then the table as the writer checks it.
+const AS_WRITTEN: Reading =
+    |table, budget, has_room| check_room(has_room).and(check_budget(budget)).and(check_records(table)).and(Ok(budget));
+
+/// How the call that plans can be misread.
+const PLANNING_MISREAD: [(&str, Reading); 8] = [
+    ("the budget is checked before the room", |table, budget, has_room| {
+        check_budget(budget).and(check_room(has_room)).and(check_records(table)).and(Ok(budget))
+    }),
+    ("the table is checked before the budget", |table, budget, has_room| {
+        check_room(has_room).and(check_records(table)).and(check_budget(budget)).and(Ok(budget))
+    }),
+    ("the room is checked last", |table, budget, has_room| {
+        check_budget(budget).and(check_records(table)).and(check_room(has_room)).and(Ok(budget))
+    }),
+    ("the table's own budget is taken", |table, budget, has_room| {
+        AS_WRITTEN(table, budget, has_room).and(Ok(table.budget))
+    }),
+    ("the lesser budget is taken", |table, budget, has_room| {
+        AS_WRITTEN(table, budget, has_room).and(Ok(budget.min(table.budget)))
+    }),
+    ("the table's own budget is not checked", |table, budget, has_room| {
+        AS_WRITTEN(&Table { budget: 0, ..*table }, budget, has_room)
+    }),
+    ("the budget is not checked", |table, budget, has_room| {
+        check_room(has_room).and(check_records(table)).and(Ok(budget))
+    }),
+    ("the budget is refused with line 0", |table, budget, has_room| {
+        let budget_checked = check_budget(budget).map_err(|_| refused(2, 0));
+        check_room(has_room).and(budget_checked).and(check_records(table)).and(Ok(budget))
+    }),
+];
+
+/// Whether two readings answer differently: with different refusals, or with different plans.
+fn plans_differ(table: &Table, one: Result<u64, Refused>, other: Result<u64, Refused>) -> bool {
+    match (one, other) {
+        (Ok(one), Ok(other)) => one != other && planned(table, one) != planned(table, other),
+        _ => one != other,
+    }
+}
+
+/// The listing that a reading gives for a text and the budget beside it.
+type ListingRead = fn(&[u8], u64) -> Vec<u8>;
+
+/// How the call that lists with a budget can be misread.
+const LISTING_MISREAD: [(&str, ListingRead); 3] = [
+    ("the listing is refused for the budget before the text", |text, budget| match check_budget(budget) {
+        Ok(()) => naive::list_with_budget(text, budget),
+        Err(_) => b"R\t2\t1\n".to_vec(),
+    }),
+    ("the listing is of the text's own budget", |text, budget| match check_budget(budget) {
+        Ok(()) => naive::list(text),
+        Err(_) => naive::list_with_budget(text, budget),
+    }),
+    ("the listing is refused for the budget with line 0", |text, budget| {
+        match (naive::read(text), check_budget(budget)) {
+            (Ok(_), Err(_)) => b"R\t2\t0\n".to_vec(),
+            _ => naive::list_with_budget(text, budget),
+        }
+    }),
+];
+
+const BUDGET_MISREADINGS: usize = PLANNING_MISREAD.len() + LISTING_MISREAD.len();
+
+/// Which misreadings answer a call differently.
+fn found_out_by(request: &Request) -> [bool; BUDGET_MISREADINGS] {
+    let mut found_out = [false; BUDGET_MISREADINGS];
+    match request {
+        Request::Plan { table, budget, order, fates } => {
+            let has_room = order.len() >= JOBS && fates.len() >= JOBS;
+            let right = AS_WRITTEN(table, *budget, has_room);
+            for (found, (_, misread)) in found_out.iter_mut().zip(PLANNING_MISREAD) {
+                *found = plans_differ(table, right, misread(table, *budget, has_room));
+            }
+        }
+        Request::ListWithBudget { text, budget, out } => {
+            let listed = |listing: Vec<u8>| (listing.len() <= out.len()).then_some(listing);
+            let right = listed(naive::list_with_budget(text, *budget));
+            for (found, (_, misread)) in found_out[PLANNING_MISREAD.len()..].iter_mut().zip(LISTING_MISREAD) {
+                *found = listed(misread(text, *budget)) != right;
+            }
+        }
+        _ => (),
+    }
+    found_out
+}
+
+/// The cases on which the library is compared tell each misreading of the budget from the right one.
+#[test]
+fn misreadings_of_the_budget_are_found_out() {
+    println!("seed {SEED}");
+    let mut counts = [0; BUDGET_MISREADINGS];
+    for index in 0..20_000 {
+        let calls: Vec<_> = case(SEED, index).iter().map(found_out_by).collect();
+        for (misreading, count) in counts.iter_mut().enumerate() {
+            *count += u64::from(calls.iter().any(|found_out| found_out[misreading]));
+        }
+    }
+    println!("of 20000 cases, another answer is given where");
+    let names = PLANNING_MISREAD.iter().map(|misread| misread.0).chain(LISTING_MISREAD.iter().map(|misread| misread.0));
+    names.zip(counts).for_each(|(name, count)| println!("{name}: {count}"));
+    assert!(counts.iter().all(|count| *count > 200), "{counts:?}");
 }
 
 // ---- Changes that must not change the plan ---------------------------------------------------------------------------
@@ -879,12 +1169,16 @@ fn listings_against_the_naive() {
 fn changes_that_leave_the_plan() {
     println!("seed {SEED}");
     for index in 0..20_000 {
-        let table = generate::table(SEED, index);
-        for change in changes(&mut Random::new(SEED, !index), &table) {
+        let (table, budget) = table_and_budget(index);
+        let plan = planned(&table, budget);
+        for change in changes(&mut Random::new(SEED, !index), &table, budget) {
             let mut out = [0; LONGEST_TEXT];
-            let show = || format!("{}: {}changed:\n{}", change.what, shown(index, &table), shown(index, &change.table));
-            assert!(write(&change.table, &mut out).is_ok(), "{} makes a bad table", show());
-            assert!(change.leaves(&table, &planned(&table), &planned(&change.table)), "{}", show());
+            let of = |table: &Table, budget| shown_with_budget(index / 2, table, budget);
+            let changed = || of(&change.table, change.budget);
+            let show = || format!("{}: {}changed: {}", change.what, of(&table, budget), changed());
+            let good = write(&change.table, &mut out).is_ok() && change.budget <= MOST_BUDGET;
+            assert!(good, "{} makes a bad table or budget", show());
+            assert!(change.leaves(&table, &plan, &planned(&change.table, change.budget)), "{}", show());
         }
     }
 }

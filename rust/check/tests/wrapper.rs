@@ -1,4 +1,4 @@
-//! The wrapper's six calls, with their `Result`, against the reference. Nothing is here where nothing is linked.
+//! The wrapper's seven calls, with their `Result`, against the reference. Nothing is here where nothing is linked.
 #![cfg(any(target_arch = "x86_64", feature = "native"))]
 
 use cuddlelamb_check::compare::case;
@@ -17,10 +17,15 @@ fn refused(refused: cuddlelamb::Refused) -> Refused {
 /// Puts a request to the wrapper and to the reference; where the results differ, it fails.
 fn assert_same(request: &Request) {
     match request {
-        Request::Plan { text, order, fates } => {
+        Request::Read { text } => {
+            let given = cuddlelamb::read(text).map_err(refused).map(own_table);
+            assert_eq!(given, reference::read(text), "{request:?}");
+        }
+        Request::Plan { table, budget, order, fates } => {
             let (mut lent, mut other) = ((order.clone(), fates.clone()), (order.clone(), fates.clone()));
-            let given = cuddlelamb::plan(text, &mut lent.0, &mut lent.1).map_err(refused).map(own_plan);
-            assert_eq!(given, reference::plan(text, &mut other.0, &mut other.1), "{request:?}");
+            let given = cuddlelamb::plan(&wrappers_table(table), *budget, &mut lent.0, &mut lent.1);
+            let expected = reference::plan(table, *budget, &mut other.0, &mut other.1);
+            assert_eq!(given.map_err(refused).map(own_plan), expected, "{request:?}");
             assert_eq!(lent, other, "{request:?}");
         }
         Request::List { text, out } => {
@@ -29,9 +34,11 @@ fn assert_same(request: &Request) {
             assert_eq!(given, reference::list(text, &mut other), "{request:?}");
             assert_eq!(lent, other, "{request:?}");
         }
-        Request::Read { text } => {
-            let given = cuddlelamb::read(text).map_err(refused).map(own_table);
-            assert_eq!(given, reference::read(text), "{request:?}");
+        Request::ListWithBudget { text, budget, out } => {
+            let (mut lent, mut other) = (out.clone(), out.clone());
+            let given = cuddlelamb::list_with_budget(text, *budget, &mut lent).map_err(refused);
+            assert_eq!(given, reference::list_with_budget(text, *budget, &mut other), "{request:?}");
+            assert_eq!(lent, other, "{request:?}");
         }
         Request::Write { table, out } => {
             let (mut lent, mut other) = (out.clone(), out.clone());

@@ -1,36 +1,83 @@
-//! Plans a table: plan [FILE], or the table on standard input. It prints what examples/plan.c prints, and so shows each
-//! call once: the plan and the fates, the listing, what a call says that refuses, an allocation and a cost table.
+//! Reads a table once and plans it with each budget named: plan FILE [BUDGET ..], where FILE - is standard input. Without
+//! a budget it takes the table's own. It prints what examples/plan.c prints: the plans and the fates, the listings, then
+//! what a call says that refuses, an allocation and a cost table. On standard error it says refusals and fates in words.
+//! Exit status: 1 where the table or a budget was refused; 2 where there is no table to read, where a budget is no
+//! number, and where the output cannot be written. A Rust program takes a closed standard stream for /dev/null.
 
-use std::error::Error;
+use std::ffi::OsStr;
+use std::fs::File;
 use std::io::{self, Read, Write};
 use std::process::ExitCode;
 
-use cuddlelamb::{Fate, Refused, JOBS, LISTING};
+use cuddlelamb::{Fate, Refused, Table, JOBS, LISTING};
 
 /// As many bytes as are read; a valid text is shorter.
 const MOST_READ: u64 = 4096;
 
-fn main() -> Result<ExitCode, Box<dyn Error>> {
-    let mut text = Vec::new();
-    match std::env::args_os().nth(1) {
-        Some(file) => std::fs::File::open(file)?.take(MOST_READ).read_to_end(&mut text)?,
-        None => io::stdin().take(MOST_READ).read_to_end(&mut text)?,
+fn main() -> ExitCode {
+    let mut words = std::env::args_os().skip(1);
+    let file = words.next();
+    let budgets: Option<Vec<u64>> = words.map(|word| number(word.to_str()?)).collect();
+    let (Some(file), Some(budgets)) = (file, budgets) else {
+        eprintln!("usage: plan FILE [BUDGET ..]");
+        return ExitCode::from(2);
     };
-    let status = match print_plan(&text) {
-        Ok(()) => ExitCode::SUCCESS,
-        Err(refused) => {
-            println!("plan: {}", numbers(refused));
-            eprintln!("{refused}"); // in words
-            ExitCode::FAILURE
+    let text = match read_text(&file) {
+        Ok(text) => text,
+        Err(error) => {
+            let name = if file == "-" { "standard input".into() } else { file.to_string_lossy() };
+            eprintln!("{name}: {error}");
+            return ExitCode::from(2);
         }
     };
-    print_listing(&text)?;
-    print_short_buffer(&text);
-    print_allocation(100, 100, 900);
-    print_allocation(1_000_000, 1, 500);
-    print_costs(3);
-    print_costs(4);
-    Ok(status)
+    let out = &mut io::stdout().lock();
+    let printed = print_all(out, &text, &budgets).and_then(|good| out.flush().map(|()| good));
+    match printed {
+        Ok(good) => ExitCode::from(if good { 0 } else { 1 }),
+        Err(error) => {
+            eprintln!("plan: the output cannot be written: {error}");
+            ExitCode::from(2)
+        }
+    }
+}
+
+/// A number is digits with no leading zero, and at most `u64::MAX`.
+fn number(word: &str) -> Option<u64> {
+    word.parse().ok().filter(|number: &u64| number.to_string() == word)
+}
+
+/// The front of a file or of standard input. Where reading fails, what came before is no table.
+fn read_text(file: &OsStr) -> io::Result<Vec<u8>> {
+    let mut text = Vec::new();
+    if file == "-" {
+        io::stdin().take(MOST_READ).read_to_end(&mut text)?;
+    } else {
+        File::open(file)?.take(MOST_READ).read_to_end(&mut text)?;
+    }
+    Ok(text)
+}
+
+/// Everything about one text; whether neither it nor a budget was refused.
+fn print_all(out: &mut impl Write, text: &[u8], budgets: &[u64]) -> io::Result<bool> {
+    let read = cuddlelamb::read(text);
+    let good = match &read {
+        Ok(table) => print_plans(out, table, budgets)?,
+        Err(refused) => {
+            writeln!(out, "read: {}", numbers(*refused))?;
+            eprintln!("{refused}");
+            false
+        }
+    };
+    print_listing(out, text)?;
+    if let Some(last) = budgets.last() {
+        print_listing_with_budget(out, text, *last)?;
+    }
+    print_short_buffer(out, &read.unwrap_or_default())?;
+    print_allocation(out, 100, 100, 900)?;
+    print_allocation(out, 1_000_000, 1, 500)?;
+    print_costs(out, 3)?;
+    print_costs(out, 4)?;
+    Ok(good)
 }
 
 fn numbers(Refused { number, line }: Refused) -> String {
@@ -41,46 +88,73 @@ fn places(places: &[u64]) -> String {
     places.iter().map(|place| format!(" {place}")).collect()
 }
 
-/// The plan and the fates; a fate belongs to the job of the J line at its place, which the table says.
-fn print_plan(text: &[u8]) -> Result<(), Refused> {
-    let (mut order, mut fates) = ([0; JOBS], [0; JOBS]);
-    let plan = cuddlelamb::plan(text, &mut order, &mut fates)?;
-    println!("plan: {} jobs at {} MHz for {} units", plan.count, plan.speed, plan.energy);
-    println!("order:{}", places(&order[..plan.count]));
-    let table = cuddlelamb::read(text)?;
-    for (job, fate) in table.jobs[..table.job_count].iter().zip(fates) {
-        println!("job {}: fate {fate}", job.number);
-        match Fate::try_from(fate) {
-            Ok(Fate::Planned) | Err(_) => (),
-            Ok(why) => eprintln!("job {}: {why}", job.number), // in words
-        }
+/// A plan for each budget, or one for the table's own where none is named; whether none was refused.
+fn print_plans(out: &mut impl Write, table: &Table, budgets: &[u64]) -> io::Result<bool> {
+    if budgets.is_empty() {
+        return print_plan(out, table, table.budget);
     }
-    Ok(())
+    let mut good = true;
+    for budget in budgets {
+        good &= print_plan(out, table, *budget)?;
+    }
+    Ok(good)
 }
 
-fn print_listing(text: &[u8]) -> Result<(), Box<dyn Error>> {
-    let mut out = [0; LISTING];
-    let length = cuddlelamb::list(text, &mut out)?;
-    println!("listing: {length} bytes");
-    Ok(io::stdout().write_all(&out[..length])?)
+/// The plan and the fates with one budget, or its refusal; a fate belongs to the job at its place in the table.
+fn print_plan(out: &mut impl Write, table: &Table, budget: u64) -> io::Result<bool> {
+    let (mut order, mut fates) = ([0; JOBS], [0; JOBS]);
+    let plan = match cuddlelamb::plan(table, budget, &mut order, &mut fates) {
+        Ok(plan) => plan,
+        Err(refused) => {
+            writeln!(out, "plan with budget {budget}: {}", numbers(refused))?;
+            eprintln!("{refused}");
+            return Ok(false);
+        }
+    };
+    let (count, speed, energy) = (plan.count, plan.speed, plan.energy);
+    writeln!(out, "plan with budget {budget}: {count} jobs at {speed} MHz for {energy} units")?;
+    writeln!(out, "order:{}", places(&order[..count]))?;
+    for (job, fate) in table.jobs[..table.job_count].iter().zip(fates) {
+        writeln!(out, "job {}: fate {fate}", job.number)?;
+        match Fate::try_from(fate) {
+            Ok(Fate::Planned) | Err(_) => (),
+            Ok(why) => eprintln!("job {}: {why}", job.number),
+        }
+    }
+    Ok(true)
+}
+
+fn print_listing(out: &mut impl Write, text: &[u8]) -> io::Result<()> {
+    let mut listing = [0; LISTING];
+    let length = cuddlelamb::list(text, &mut listing).expect("room for the longest listing");
+    writeln!(out, "listing: {length} bytes")?;
+    out.write_all(&listing[..length])
+}
+
+/// A refused budget has a listing too, as a refused text has.
+fn print_listing_with_budget(out: &mut impl Write, text: &[u8], budget: u64) -> io::Result<()> {
+    let mut listing = [0; LISTING];
+    let length = cuddlelamb::list_with_budget(text, budget, &mut listing).expect("room for the longest listing");
+    writeln!(out, "listing with budget {budget}: {length} bytes")?;
+    out.write_all(&listing[..length])
 }
 
 /// A refusal changes nothing in the lent buffers.
-fn print_short_buffer(text: &[u8]) {
+fn print_short_buffer(out: &mut impl Write, table: &Table) -> io::Result<()> {
     let mut order = [7, 8, 9];
-    if let Err(refused) = cuddlelamb::plan(text, &mut order, &mut [0; JOBS]) {
-        println!("plan with an order buffer of 3 places: {}", numbers(refused));
+    if let Err(refused) = cuddlelamb::plan(table, table.budget, &mut order, &mut [0; JOBS]) {
+        writeln!(out, "plan with an order buffer of 3 places: {}", numbers(refused))?;
     }
-    println!("the buffer:{}", places(&order));
+    writeln!(out, "the buffer:{}", places(&order))
 }
 
-fn print_allocation(mean: u64, variance: u64, assurance: u64) {
+fn print_allocation(out: &mut impl Write, mean: u64, variance: u64, assurance: u64) -> io::Result<()> {
     let answer = cuddlelamb::allocate(mean, variance, assurance);
     let said = answer.map_or_else(numbers, |cycles| cycles.to_string());
-    println!("allocation of {mean}, {variance}, {assurance}: {said}");
+    writeln!(out, "allocation of {mean}, {variance}, {assurance}: {said}")
 }
 
-fn print_costs(model: u64) {
+fn print_costs(out: &mut impl Write, model: u64) -> io::Result<()> {
     let said = cuddlelamb::costs(model).map_or_else(|refused| format!(" {}", numbers(refused)), |costs| places(&costs));
-    println!("costs of model {model}:{said}");
+    writeln!(out, "costs of model {model}:{said}")
 }

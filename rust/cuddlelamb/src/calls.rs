@@ -1,4 +1,4 @@
-//! The six calls as the archive answers them, in numbers: the one module with unsafe code. include/cuddlelamb.h is what
+//! The seven calls as the archive answers them, in numbers: the one module with unsafe code. include/cuddlelamb.h is what
 //! it leans on. Its functions are safe to call; those at the top of the crate say the same with a `Result`.
 //!
 //! What the calls ask of a buffer, a slice of Rust is: its pointer is never null and is aligned, also where it is empty;
@@ -55,27 +55,41 @@ const _: () = {
 };
 
 extern "C" {
+    fn cuddlelamb_read(text: *const u8, text_length: usize) -> Told<Table>;
     fn cuddlelamb_plan(
-        text: *const u8,
-        text_length: usize,
+        table: Table,
+        budget: u64,
         order: *mut u64,
         order_length: usize,
         fates: *mut u64,
         fates_length: usize,
     ) -> Told<Plan>;
     fn cuddlelamb_list(text: *const u8, text_length: usize, out: *mut u8, out_length: usize) -> Told<usize>;
-    fn cuddlelamb_read(text: *const u8, text_length: usize) -> Told<Table>;
+    fn cuddlelamb_list_with_budget(
+        text: *const u8,
+        text_length: usize,
+        budget: u64,
+        out: *mut u8,
+        out_length: usize,
+    ) -> Told<usize>;
     fn cuddlelamb_write(table: Table, out: *mut u8, out_length: usize) -> Told<usize>;
     fn cuddlelamb_allocate(mean: u64, variance: u64, assurance: u64) -> Told<u64>;
     fn cuddlelamb_costs(model: u64) -> Told<[u64; COSTS]>;
 }
 
+/// See [`read`](crate::read).
+pub fn read(text: &[u8]) -> Told<Table> {
+    // SAFETY: pointer and length are those of a slice, which is only read.
+    unsafe { cuddlelamb_read(text.as_ptr(), text.len()) }
+}
+
 /// See [`plan`](crate::plan).
-pub fn plan(text: &[u8], order: &mut [u64], fates: &mut [u64]) -> Told<Plan> {
+pub fn plan(table: &Table, budget: u64, order: &mut [u64], fates: &mut [u64]) -> Told<Plan> {
     let (order, order_length) = (order.as_mut_ptr(), order.len());
     let (fates, fates_length) = (fates.as_mut_ptr(), fates.len());
-    // SAFETY: each pointer and its length are those of a slice, of which the last two are lent as `&mut`.
-    unsafe { cuddlelamb_plan(text.as_ptr(), text.len(), order, order_length, fates, fates_length) }
+    // SAFETY: each pointer and its length are those of a slice that is lent as `&mut`; the table is a copy, and it and
+    // the budget may hold any numbers.
+    unsafe { cuddlelamb_plan(*table, budget, order, order_length, fates, fates_length) }
 }
 
 /// See [`list`](crate::list).
@@ -84,10 +98,10 @@ pub fn list(text: &[u8], out: &mut [u8]) -> Told<usize> {
     unsafe { cuddlelamb_list(text.as_ptr(), text.len(), out.as_mut_ptr(), out.len()) }
 }
 
-/// See [`read`](crate::read).
-pub fn read(text: &[u8]) -> Told<Table> {
-    // SAFETY: pointer and length are those of a slice, which is only read.
-    unsafe { cuddlelamb_read(text.as_ptr(), text.len()) }
+/// See [`list_with_budget`](crate::list_with_budget).
+pub fn list_with_budget(text: &[u8], budget: u64, out: &mut [u8]) -> Told<usize> {
+    // SAFETY: each pointer and its length are those of a slice, of which the second is lent as `&mut`; any budget will do.
+    unsafe { cuddlelamb_list_with_budget(text.as_ptr(), text.len(), budget, out.as_mut_ptr(), out.len()) }
 }
 
 /// See [`write`](crate::write).

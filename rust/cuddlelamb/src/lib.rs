@@ -1,23 +1,30 @@
-//! One planning decision, from the text of a job table to an ordered plan, a fate for each job, a speed and an energy:
+//! One planning decision, from a job table and a budget to an ordered plan, a fate for each job, a speed and an energy:
 //! a safe wrapper of the proved library.
+//!
+//! A table is read once and planned as often as the budget changes:
 //!
 //! ```
 //! # use cuddlelamb::{Refused, JOBS};
-//! # let text = b"T\t0\t99\nF\t1000\t1\nJ\t7\t10\t5\t500\t500\t0\n";
+//! # let text = b"T\t0\t99\nF\t1000\t1\nJ\t7\t10\t5\t400\t400\t0\nJ\t8\t20\t4\t500\t500\t0\n";
+//! let table = cuddlelamb::read(text)?; // or Err(Refused { number, line })
 //! let (mut order, mut fates) = ([0; JOBS], [0; JOBS]);
-//! let plan = cuddlelamb::plan(text, &mut order, &mut fates)?; // or Err(Refused { number, line })
-//! println!("{:?} at {} MHz", &order[..plan.count], plan.speed);
-//! # assert_eq!((&order[..plan.count], fates[0], plan.speed), (&[7][..], 1, 1000));
+//! for budget in [table.budget, 29] {
+//!     let plan = cuddlelamb::plan(&table, budget, &mut order, &mut fates)?;
+//!     println!("{:?} at {} MHz for {} units", &order[..plan.count], plan.speed, plan.energy);
+//! #   let expected = if budget == 29 { (&[7][..], [1, 6]) } else { (&[7, 8][..], [1, 1]) };
+//! #   assert_eq!((&order[..plan.count], [fates[0], fates[1]]), expected);
+//! }
 //! # Ok::<(), Refused>(())
 //! ```
 //!
-//! Six calls: [`plan`], [`list`], [`read`], [`write()`], [`allocate`] and [`costs`]. What each keeps:
+//! Seven calls: [`read`], [`plan`], [`list`], [`list_with_budget`], [`write()`], [`allocate`] and [`costs`]. What each
+//! keeps:
 //!
 //! - It takes any bytes, any numbers and any lengths, and does not panic.
 //! - A refusal names its number and the line it means; no byte and no place of a lent buffer has then changed.
 //! - It answers the same for the same input. It keeps nothing from one call to the next, does not use the heap, and may
 //!   be called from several threads at once.
-//! - It takes at most 40,000 bytes of stack: measured, not proved.
+//! - It takes at most 37,000 bytes of stack: measured, not proved.
 //!
 //! The library is linked, always: no environment variable is read, and no other process answers. On x86-64 it is the
 //! archive that `rt staticlib boundary` makes; elsewhere, with the feature `native`, the one that `tools/native` makes of
@@ -39,19 +46,33 @@ mod table;
 pub use named::{Fate, Refusal, Refused, Unnamed};
 pub use table::{Hold, Job, Plan, Speed, Table, COSTS, HOLDS, JOBS, LISTING, SPEEDS, SUPPLIED_SPEEDS, TEXT};
 
-/// Plans a text. The first `count` places of `order` become the planned jobs' numbers in the order in which they run,
-/// the places of `fates` the fates of the jobs in the order of the J lines (see [`Fate`]); all places after them become
-/// 0.
+/// Reads a text: the table has the text's records, in their order, and 0 in every unused place.
 ///
 /// # Errors
 ///
-/// Before the text is looked at, [`Refusal::NoRoom`] where `order` or `fates` has fewer than [`JOBS`] places. Then the
-/// text is refused as [`read`] does it.
-pub fn plan(text: &[u8], order: &mut [u64], fates: &mut [u64]) -> Result<Plan, Refused> {
-    calls::plan(text, order, fates).result()
+/// The first bad line decides, and within it the lowest number: [`Refusal::NoShape`] to [`Refusal::RequestsOwn`].
+pub fn read(text: &[u8]) -> Result<Table, Refused> {
+    calls::read(text).result()
 }
 
-/// Plans a text, writes the listing to the front of `out` and gives its length; [`LISTING`] bytes are room enough.
+/// Plans a table with the budget given beside it, in the place of the table's own. The first `count` places of `order`
+/// become the planned jobs' numbers in the order in which they run, the places of `fates` the fates of the jobs in the
+/// order of the J lines (see [`Fate`]); all places after them become 0.
+///
+/// The table may be any, from [`read`] or put together by hand, and its unused places may hold anything. It stays as it
+/// is and may be planned again with other budgets.
+///
+/// # Errors
+///
+/// In this order: [`Refusal::NoRoom`], line 0, where `order` or `fates` has fewer than [`JOBS`] places;
+/// [`Refusal::OutOfRange`], line 1, where the budget is above 10^15; then the table is refused as [`write()`] refuses its
+/// records, which counts the table's own budget in.
+pub fn plan(table: &Table, budget: u64, order: &mut [u64], fates: &mut [u64]) -> Result<Plan, Refused> {
+    calls::plan(table, budget, order, fates).result()
+}
+
+/// Plans a text with its own budget, writes the listing to the front of `out` and gives its length; [`LISTING`] bytes are
+/// room enough.
 ///
 /// The listing is a line `P speed energy count`, for each planned job in order a line `O job finish`, and for each other
 /// job in the order of the J lines a line `X job fate`, with one tab between fields. A text that is refused has a listing
@@ -64,13 +85,14 @@ pub fn list(text: &[u8], out: &mut [u8]) -> Result<usize, Refused> {
     calls::list(text, out).result()
 }
 
-/// Reads a text: the table has the text's records, in their order, and 0 in every unused place.
+/// The same as [`list`], but the text is planned with the budget given beside it, in the place of its own. Where the text
+/// is not refused and this budget is above 10^15, the listing is the one line `R 2 1`.
 ///
 /// # Errors
 ///
-/// The first bad line decides, and within it the lowest number: [`Refusal::NoShape`] to [`Refusal::RequestsOwn`].
-pub fn read(text: &[u8]) -> Result<Table, Refused> {
-    calls::read(text).result()
+/// [`Refusal::NoRoom`] where the listing is longer than `out`.
+pub fn list_with_budget(text: &[u8], budget: u64, out: &mut [u8]) -> Result<usize, Refused> {
+    calls::list_with_budget(text, budget, out).result()
 }
 
 /// Writes a table's text to the front of `out` and gives its length; [`TEXT`] bytes are room enough. What [`read`] makes

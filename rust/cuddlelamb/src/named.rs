@@ -103,7 +103,8 @@ named! {
 pub struct Refused {
     /// 1 to 10; [`refusal`](Refused::refusal) gives its name.
     pub number: u64,
-    /// The line of the text that is meant, counted from 1, or 0 where no line is meant.
+    /// The line of the text that is meant, counted from 1, or the one that a table's record would have had; 1 for the
+    /// budget beside a table; 0 where no line is meant.
     pub line: u64,
 }
 

@@ -10,7 +10,8 @@ pub const HOLDS: usize = 32;
 pub const COSTS: usize = 7;
 /// Bytes of the longest valid text: room enough for [`write`](crate::write).
 pub const TEXT: usize = 3653;
-/// Bytes of the longest listing: room enough for [`list`](crate::list).
+/// Bytes of the longest listing: room enough for [`list`](crate::list) and
+/// [`list_with_budget`](crate::list_with_budget).
 pub const LISTING: usize = 1118;
 
 /// The speeds, in MHz, to which the costs of a supplied model belong.
@@ -62,7 +63,7 @@ pub struct Hold {
 pub struct Table {
     /// 0..=1,000,000,000 ms.
     pub clock: u64,
-    /// 0..=10^15 units.
+    /// 0..=10^15 units. [`plan`](crate::plan) checks it and then plans with the budget given beside the table.
     pub budget: u64,
     /// How many F lines.
     pub speed_count: usize,

@@ -6,8 +6,8 @@ use std::mem::size_of;
 
 use cuddlelamb::calls::Told;
 use cuddlelamb::{
-    allocate, costs, list, plan, read, write, Fate, Hold, Job, Plan, Refusal, Refused, Speed, Table, Unnamed, COSTS,
-    HOLDS, JOBS, LISTING, SPEEDS, SUPPLIED_SPEEDS, TEXT,
+    allocate, costs, list, list_with_budget, plan, read, write, Fate, Hold, Job, Plan, Refusal, Refused, Speed, Table,
+    Unnamed, COSTS, HOLDS, JOBS, LISTING, SPEEDS, SUPPLIED_SPEEDS, TEXT,
 };
 
 /// The text of the sheet's case S.
@@ -17,21 +17,53 @@ const CASE_S: &[u8] = b"T\t0\t2500000000\nF\t500\t700000\nF\t1000\t1000000\nJ\t1
 
 const HEADER: &str = include_str!("../../../include/cuddlelamb.h");
 
+/// The greatest budget.
+const MOST_BUDGET: u64 = 1_000_000_000_000_000;
+
 fn refused<Value>(refusal: Refusal, line: u64) -> Result<Value, Refused> {
     Err(Refused { number: refusal.number(), line })
 }
 
+fn table_s() -> Table {
+    read(CASE_S).expect("a good text")
+}
+
 // ---- The calls -------------------------------------------------------------------------------------------------------
 
+/// One table, planned with its own budget, with a unit less, and with its own again.
 #[test]
-fn a_plan_and_its_fates() {
-    let (mut order, mut fates) = ([77; JOBS + 3], [77; JOBS]);
-    let plan = plan(CASE_S, &mut order, &mut fates);
-    assert_eq!(plan, Ok(Plan { count: 3, speed: 1000, energy: 2_500_000_000 }));
-    assert_eq!(order[..3], [3, 2, 1]);
-    let named: Vec<Fate> = fates[..5].iter().map(|fate| Fate::try_from(*fate).expect("a fate")).collect();
-    assert_eq!(named, [Fate::Planned, Fate::Planned, Fate::Planned, Fate::OutOfTime, Fate::LateAlone]);
-    assert!(order[3..].iter().chain(&fates[5..]).all(|place| *place == 0));
+fn plans_and_their_fates() {
+    let table = table_s();
+    let most = [Fate::Planned, Fate::Planned, Fate::Planned, Fate::OutOfTime, Fate::LateAlone];
+    let less = [Fate::OutOfBudget, Fate::Planned, Fate::Planned, Fate::OutOfBudget, Fate::LateAlone];
+    let cases = [
+        (2_500_000_000, 2_500_000_000, &[3, 2, 1][..], most),
+        (2_499_999_999, 1_500_000_000, &[3, 2], less),
+        (table.budget, 2_500_000_000, &[3, 2, 1], most),
+    ];
+    for (budget, energy, expected, fates_expected) in cases {
+        let (mut order, mut fates) = ([77; JOBS + 3], [77; JOBS]);
+        let plan = plan(&table, budget, &mut order, &mut fates);
+        assert_eq!(plan, Ok(Plan { count: expected.len(), speed: 1000, energy }));
+        assert_eq!(order[..expected.len()], *expected);
+        let named = [0, 1, 2, 3, 4].map(|place| Fate::try_from(fates[place]).expect("a fate"));
+        assert_eq!(named, fates_expected);
+        assert!(order[expected.len()..].iter().chain(&fates[5..]).all(|place| *place == 0));
+    }
+    assert_eq!(Ok(table), read(CASE_S));
+}
+
+/// The places beyond the counts may hold anything.
+#[test]
+fn a_plan_of_a_table_put_together_by_hand() {
+    let mut table = table_s();
+    table.speeds[table.speed_count..].fill(Speed { mhz: u64::MAX, cost: 0 });
+    table.jobs[table.job_count..].fill(Job { number: 3, cycles: u64::MAX, ..Job::default() });
+    table.holds[table.hold_count..].fill(Hold { resource: 1, holder: 9 });
+    let (mut order, mut fates) = ([77; JOBS], [77; JOBS]);
+    let energy = 2_500_000_000;
+    assert_eq!(plan(&table, energy, &mut order, &mut fates), Ok(Plan { count: 3, speed: 1000, energy }));
+    assert_eq!((&order[..4], &fates[..6]), (&[3, 2, 1, 0][..], &[1, 1, 1, 5, 2, 0][..]));
 }
 
 #[test]
@@ -45,9 +77,31 @@ fn a_listing() {
     assert_eq!(&out[..6], b"R\t3\t1\n");
 }
 
+/// The refusal of the text comes before that of the budget, and each is a listing.
+#[test]
+fn listings_with_a_budget() {
+    let less = &b"P\t1000\t1500000000\t2\nO\t3\t500\nO\t2\t1500\nX\t1\t6\nX\t4\t6\nX\t5\t2\n"[..];
+    let cases = [
+        (CASE_S, 2_499_999_999, less),
+        (CASE_S, MOST_BUDGET + 1, b"R\t2\t1\n"),
+        (CASE_S, u64::MAX, b"R\t2\t1\n"),
+        (b"", MOST_BUDGET + 1, b"R\t3\t1\n"),
+        (b"", 0, b"R\t3\t1\n"),
+    ];
+    for (text, budget, expected) in cases {
+        let mut out = [9; LISTING];
+        assert_eq!(list_with_budget(text, budget, &mut out), Ok(expected.len()));
+        assert_eq!(out[..expected.len()], *expected);
+        assert!(out[expected.len()..].iter().all(|byte| *byte == 9));
+        let mut short = vec![9; expected.len() - 1];
+        assert_eq!(list_with_budget(text, budget, &mut short), refused(Refusal::NoRoom, 0));
+        assert!(short.iter().all(|byte| *byte == 9));
+    }
+}
+
 #[test]
 fn a_table_there_and_back() {
-    let table = read(CASE_S).expect("a good text");
+    let table = table_s();
     assert_eq!((table.clock, table.budget), (0, 2_500_000_000));
     assert_eq!(
         table.speeds[..table.speed_count],
@@ -70,9 +124,9 @@ fn allocations_and_costs() {
     assert_eq!(costs(1), Ok(SUPPLIED_SPEEDS.map(|mhz| mhz * mhz)));
 }
 
-/// Each refusal by a call that gives it, and the lent buffers as they were.
+/// Each refusal of a text.
 #[test]
-fn refusals() {
+fn refusals_of_texts() {
     for (text, refusal, line) in [
         (&b"T\t007\t0\n"[..], Refusal::NoShape, 1),
         (b"T\t0\t0\nF\t4001\t1\n", Refusal::OutOfRange, 2),
@@ -81,21 +135,68 @@ fn refusals() {
         (b"T\t0\t0\nF\t1\t1\nJ\t1\t1\t1\t1\t1\t0\nH\t1\t2\n", Refusal::UnknownJob, 4),
         (b"T\t0\t0\nF\t1\t1\nJ\t1\t1\t1\t1\t1\t1\nH\t1\t1\n", Refusal::RequestsOwn, 4),
     ] {
-        let (mut order, mut fates) = ([7; JOBS], [8; JOBS]);
         assert_eq!(read(text), refused(refusal, line));
-        assert_eq!(plan(text, &mut order, &mut fates), refused(refusal, line));
-        assert_eq!((order, fates), ([7; JOBS], [8; JOBS]));
     }
-    let mut table = read(CASE_S).expect("a good text");
-    table.job_count = usize::MAX;
-    table.jobs = std::array::from_fn(|place| Job { number: place as u64 + 1, ..table.jobs[0] });
-    let mut out = [9; TEXT];
-    assert_eq!(write(&table, &mut out), refused(Refusal::TooMany, 4 + JOBS as u64));
-    assert_eq!(write(&Table::default(), &mut out), refused(Refusal::OutOfPlace, 2));
-    assert_eq!(out, [9; TEXT]);
+}
+
+/// Plans and writes a table that is refused, and looks at the lent buffers, which must be as they were.
+fn assert_refused(table: &Table, refusal: Refusal, line: u64) {
+    let (mut order, mut fates, mut out) = ([7; JOBS], [8; JOBS], [9; TEXT]);
+    assert_eq!(plan(table, 0, &mut order, &mut fates), refused(refusal, line));
+    assert_eq!(write(table, &mut out), refused(refusal, line));
+    assert_eq!((order, fates, out), ([7; JOBS], [8; JOBS], [9; TEXT]));
+}
+
+/// Each refusal of a table, by the planner and by the writer.
+#[test]
+fn refusals_of_tables() {
+    let table = table_s();
+    let job = |change: fn(&mut Job)| {
+        let mut table = table_s();
+        change(&mut table.jobs[0]);
+        table
+    };
+    let hold = |resource, holder| {
+        let mut table = table_s();
+        table.holds[0] = Hold { resource, holder };
+        table
+    };
+    let numbered = std::array::from_fn(|place| Job { number: place as u64 + 1, ..table.jobs[0] });
+    for (table, refusal, line) in [
+        (Table { budget: MOST_BUDGET + 1, ..table }, Refusal::OutOfRange, 1),
+        (job(|job| job.cycles = 0), Refusal::OutOfRange, 4),
+        (Table::default(), Refusal::OutOfPlace, 2),
+        (Table { job_count: usize::MAX, jobs: numbered, ..table }, Refusal::TooMany, 4 + JOBS as u64),
+        (job(|job| job.critical = 3001), Refusal::CriticalAfterTermination, 4),
+        (hold(1, 6), Refusal::UnknownJob, 9),
+        (hold(1, 2), Refusal::RequestsOwn, 9),
+    ] {
+        assert_refused(&table, refusal, line);
+    }
+}
+
+/// The lent buffers come first, then the budget beside the table, then the table.
+#[test]
+fn the_order_of_a_plans_refusals() {
+    for table in [table_s(), Table::default()] {
+        for (order, fates) in [(JOBS - 1, JOBS), (JOBS, JOBS - 1), (0, 0)] {
+            let (mut order, mut fates) = (vec![7; order], vec![8; fates]);
+            assert_eq!(plan(&table, MOST_BUDGET + 1, &mut order, &mut fates), refused(Refusal::NoRoom, 0));
+            assert!(order.iter().all(|place| *place == 7) && fates.iter().all(|place| *place == 8));
+        }
+        for budget in [MOST_BUDGET + 1, u64::MAX] {
+            let (mut order, mut fates) = ([7; JOBS], [8; JOBS]);
+            assert_eq!(plan(&table, budget, &mut order, &mut fates), refused(Refusal::OutOfRange, 1));
+            assert_eq!((order, fates), ([7; JOBS], [8; JOBS]));
+        }
+    }
+    assert!(plan(&table_s(), MOST_BUDGET, &mut [0; JOBS], &mut [0; JOBS]).is_ok());
+}
+
+#[test]
+fn other_refusals() {
     assert_eq!(list(CASE_S, &mut []), refused(Refusal::NoRoom, 0));
-    assert_eq!(plan(CASE_S, &mut [0; JOBS - 1], &mut [0; JOBS]), refused(Refusal::NoRoom, 0));
-    assert_eq!(plan(CASE_S, &mut [], &mut []), refused(Refusal::NoRoom, 0));
+    assert_eq!(write(&table_s(), &mut []), refused(Refusal::NoRoom, 0));
     assert_eq!(costs(4), refused(Refusal::UnknownModel, 0));
     assert_eq!(allocate(0, 0, 0), refused(Refusal::OutOfRange, 0));
     assert_eq!(allocate(1_000_000, 1, 500), refused(Refusal::TooMuchAllocated, 0));
@@ -106,7 +207,7 @@ fn refusals() {
 fn threads() {
     std::thread::scope(|scope| {
         for _ in 0..8 {
-            scope.spawn(|| (0..200).for_each(|_| a_plan_and_its_fates()));
+            scope.spawn(|| (0..200).for_each(|_| plans_and_their_fates()));
         }
     });
 }
@@ -168,6 +269,13 @@ fn the_headers_sizes() {
         assert!(HEADER.contains(&line), "the header does not say {line}");
     }
     assert_eq!(HEADER.matches("CUDDLELAMB_SIZE(cuddlelamb_").count(), sizes.len());
+}
+
+#[test]
+fn the_headers_calls() {
+    let calls: Vec<&str> =
+        HEADER.split("_answer cuddlelamb_").skip(1).filter_map(|rest| rest.split('(').next()).collect();
+    assert_eq!(calls, ["read", "plan", "list", "list_with_budget", "write", "allocate", "costs"]);
 }
 
 #[test]

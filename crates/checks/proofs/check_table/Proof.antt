@@ -1,167 +1,255 @@
--- `checks::check_table` meets its contract: the T, the F, the J and the H are checked each behind those before it, and the
--- first part that stops decides. Assumes nothing.
-use mathlib.Core.Option.{none}
-use mathlib.Core.Path.{_≡_, refl, sym, _∙_}
-use lib.ListN.{length-map}
-use Rattle.records.proofs.Faults.{clock-fault}
+-- `checks::check_table` meets its contract. The invariant: going on with what is left of the table comes to what the check of
+-- all of it comes to. Each turn takes one record of what is left, so that its length is the measure. Assumes nothing.
+use mathlib.Core.List.{[], _∷_}
+use mathlib.Core.Logic.{⊎-elim}
+use mathlib.Core.Path.{_≡_, refl, sym, ap, _∙_}
+use Prim.Native.Nat.{_+_, _<_}
+use native.Mathlib.Omega.{arith}
+use lib.ListN.{length, length-map}
+use types.Run.{miss}
 use Rattle.records.specs.Faults.{faultSays}
-use Rattle.records.specs.Standing.{standingOf}
-use Rattle.rules.specs.Refusals.{Before, faultOf, nothing}
-use Rattle.rules.specs.TableText.{Record}
-use Rattle.checks.specs.Passing.{jobsPassed, speedsPassed, through}
-use Rattle.checks.proofs.Parts.{passed-stopped, passed-through}
-use Rattle.checks.proofs.Whole.{clock-refused, holds-decide, jobs-refused, jobs-standing, speeds-refused, speeds-standing}
+use Rattle.records.specs.declared.Standing.{Standing}
+use Rattle.rules.specs.Refusals.{faultOf}
+use Rattle.rules.specs.TableText.{Record, mostHolds, mostJobs, mostSpeeds}
+use Rattle.rules.specs.declared.Job.{Job}
+use Rattle.text.specs.Lines.{itemOf, parsedOf}
+use Rattle.text.specs.declared.Parsed.{Parsed}
+use Rattle.lines.specs.Step.{afterParsed, faultIn}
+use Rattle.checks.specs.Left.{Comes, ComesNext, Whole, left}
+use Rattle.checks.proofs.SoFar.{SoFar, all-checked, at-start, bad-next, item-of-record, not-stored, noted, one-more, refused-next, storedIn}
 use borrow.Author.Needs.{needs}
 use Rattle.checks.proofs.check_table.Statement.{statement}
 use Rattle.checks.proofs.check_table.Tie as tie
 
--- the judgement of the T is the rules' fault of it
-fault : (c : tie.After-judge-clock)
-    → let t = c .before .before .args .table in faultOf nothing (Record.T (t .clock) (t .budget)) ≡ faultSays (c .judge-clock .result)
-unfolding nothing
+abbrev Inv-loop : tie.InvT-loop
+Inv-loop table numbers₀ requests₀ before₀ line₀ numbers requests before line = SoFar table numbers requests before line
+
+abbrev μ-loop : tie.MeasureT-loop
+μ-loop table numbers₀ requests₀ before₀ line₀ numbers requests before line = length (left table before)
+
+whole : (c : tie.Start Inv-loop μ-loop) → Whole (c .args .t1)
+whole c =
+    let t = c .args .t1 in
+    let good = c .good .0 .1 .1 .1 .1 .1 .1 .1 in
+    record {
+      speeds = sym (length-map (t .speeds) _) ∙ good .0 .1 .0 .1;
+      jobs = sym (length-map (t .jobs) _) ∙ good .1 .0 .1 .0 .1;
+      holds = sym (length-map (t .holds) _) ∙ good .1 .1 .0 .1 .0 .1;
+    }
+
+comes-next : (c : tie.After-next-of Inv-loop μ-loop)
+    → ComesNext (c .before .before .before .args .t1) (c .before .loop .before) (c .next-of .result)
+comes-next c = let start = c .before .before .before in c .next-of .ensures (start .args .t1) (whole start) refl refl refl
+
+-- the record that comes, whatever its letter
+comes : (c : tie.At-match-came Inv-loop μ-loop)
+    → (r : Record) × (c .match .parsed ≡ parsedOf r) × Comes (c .before .before .before .before .args .t1) (c .before .before .loop .before) r
+comes c =
+    let next = comes-next (c .before) in
+    ⊎-elim (λ w. (_, w .2, rw (w .1 .given .1) at next))
+    (⊎-elim (λ w. (_, w .4, (rw (w .1 .given .1) at next) .1))
+    (⊎-elim (λ w. (_, w .4, (rw (w .1 .given .1) at next) .1))
+    (λ w. (_, w .4, (rw (w .1 .given .1) at next) .1))))
+    (c .match .came)
+
+-- the judgement is the rules' fault of it
+fault : (c : tie.After-judge-record Inv-loop μ-loop)
+    → faultOf (c .before .before .before .before .before .loop .inv .stands) (comes (c .before .before .before) .0) ≡ faultSays (c .judge-record .result)
 fault c =
-    let t = c .before .before .args .table in
-    clock-fault nothing (t .clock) (t .budget) ∙ rw (← c .before .none-standing .ensures) (sym (c .judge-clock .ensures))
+    let so-far = c .before .before .before .before .before .loop .inv in
+    let (r, parsed, first) = comes (c .before .before .before) in
+    sym
+    (c .judge-record .ensures (so-far .stands) (noted so-far)
+    ∙ ap (λ p. faultIn (so-far .stands) (itemOf p)) parsed
+    ∙ ap (faultIn (so-far .stands)) (item-of-record r))
 
-accepted : (c : tie.After-enum-told) → let t = c .before .before .before .before .args .table in faultOf nothing (Record.T (t .clock) (t .budget)) ≡ none
-accepted c = fault (c .before .before) ∙ rw (c .enum-told .given .1)
+-- it is accepted, and less is left
+accepted : (c : tie.After-standing-after Inv-loop μ-loop)
+    → let a = c .before .before .before .before .before .before .before .before in
+    let l = a .loop in
+    let parsed = c .before .before .before .before .before .before .match .parsed in
+    SoFar (a .before .before .args .t1) (storedIn (λ j. j .number) (l .before) parsed (l .numbers))
+    (storedIn (λ j. j .request) (l .before) parsed (l .requests)) (c .standing-after .result) (l .line + 1)
+accepted c =
+    let came = c .before .before .before .before .before .before in
+    let (r, parsed, first) = comes came in
+    rw (c .standing-after .ensures)
+    (one-more (came .before .before .loop .inv) r (came .match .parsed) parsed first
+    (fault (c .before .before .before) ∙ rw (c .before .enum-told3 .given .1)))
 
--- where the F, the J are accepted, what stands behind them
-speeds : (c : tie.After-speeds)
-    → let f = c .before .before in
-    let t = f .before .before .before .before .before .before .args .table in
-    (b : Before) × (speedsPassed t ≡ through b) × (c .speeds .given .0 .0 ≡ standingOf b)
-speeds c =
-    let f = c .before .before in
-    let t = f .before .before .before .before .before .before .args .table in
-    passed-through (speedsPassed t) (c .speeds .given .0 .0) (sym (c .speeds .given .1) ∙ f .check-speeds .ensures)
+less : (c : tie.After-standing-after Inv-loop μ-loop)
+    → let a = c .before .before .before .before .before .before .before .before in
+    let t = a .before .before .args .t1 in
+    length (left t (c .standing-after .result)) < length (left t (a .loop .before))
+less c =
+    let (r, parsed, first) = comes (c .before .before .before .before .before .before) in
+    rw (c .standing-after .ensures, parsed, first .first) (omega arith)
 
-jobs : (c : tie.After-jobs)
-    → let f = c .before .before .before .before .before .before in
-    let t = f .before .before .before .before .before .before .args .table in
-    (b : Before) × (jobsPassed t ≡ through b) × (c .jobs .given .0 .0 ≡ standingOf b)
-jobs c =
-    let f = c .before .before .before .before .before .before in
-    let t = f .before .before .before .before .before .before .args .table in
-    passed-through (jobsPassed t) (c .jobs .given .0 .0) (sym (c .jobs .given .1) ∙ c .before .before .check-jobs .ensures)
+-- a J has a place in the columns
+job-room : (c : tie.After-parsed Inv-loop μ-loop) → c .before .before .before .before .before .before .before .before .before .before .loop .before .jobs < mostJobs
+job-room c =
+    let stood = c .before .before in
+    let after = stood .standing-after .ensures ∙ ap (afterParsed (stood .before .before .before .before .before .before .before .before .loop .before)) (c .parsed .given .1) in
+    omega (arith, accepted stood .counted .few .1, ap (λ (s : Standing). s .jobs) after)
 
-none-standing-requires : tie.Need-none-standing-requires
+-- where it stands, by its letter
+speed-there : (c : tie.After-next Inv-loop μ-loop) → c .next .given .0 .0 < mostSpeeds
+speed-there c = (rw (c .next .given .1) at (comes-next (c .before .before))) .0
+
+job-there : (c : tie.After-next2 Inv-loop μ-loop) → c .next2 .given .0 .0 < mostJobs
+job-there c = (rw (c .next2 .given .1) at (comes-next (c .before .before))) .0
+
+hold-there : (c : tie.After-next3 Inv-loop μ-loop) → c .next3 .given .0 .0 < mostHolds
+hold-there c = (rw (c .next3 .given .1) at (comes-next (c .before .before))) .0
+
+none-standing-requires : tie.Need-none-standing-requires Inv-loop μ-loop
 none-standing-requires c κs = search needs
 
-judge-clock-requires : tie.Need-judge-clock-requires
-judge-clock-requires c κs = search needs
+loop-holds : tie.Need-loop-holds Inv-loop μ-loop
+loop-holds c = rw (c .none-standing .ensures) (at-start (c .before .args .t1))
 
-enum-known-judgement : tie.Need-enum-known-judgement
-enum-known-judgement c = search needs
+next-of-requires : tie.Need-next-of-requires Inv-loop μ-loop
+next-of-requires c κs = c .loop .inv .counted .few
 
-returns : tie.Need-returns
-returns c =
-    let j = c .before .before .before in
-    let t = j .before .before .args .table in
-    let g = c .before .judgement .given in
-    rw (clock-refused t (g .0 .0) (fault j ∙ rw (g .1)))
-
-enum-told : tie.Need-enum-told
+enum-told : tie.Need-enum-told Inv-loop μ-loop
 enum-told c = search needs
 
-after-clock-requires : tie.Need-after-clock-requires
-after-clock-requires c κs = search needs
+enum-known-next : tie.Need-enum-known-next Inv-loop μ-loop
+enum-known-next c = search needs
 
-check-speeds-requires : tie.Need-check-speeds-requires
-check-speeds-requires c κs = c .after-clock .ensures ∙ rw (c .before .before .before .before .none-standing .ensures) refl
+mul-t23 : tie.Need-mul-t23 Inv-loop μ-loop
+mul-t23 c = omega (arith, speed-there (c .before))
 
-enum-known-speeds : tie.Need-enum-known-speeds
-enum-known-speeds c = search needs
+element-copy-out-t26 : tie.Need-element-copy-out-t26 Inv-loop μ-loop
+element-copy-out-t26 c = speed-there (c .before)
 
-enum-told-2 : tie.Need-enum-told-2
+enum-known-next-2 : tie.Need-enum-known-next-2 Inv-loop μ-loop
+enum-known-next-2 c = search needs
+
+mul-t27 : tie.Need-mul-t27 Inv-loop μ-loop
+mul-t27 c = omega (arith, job-there (c .before))
+
+element-copy-out-t30 : tie.Need-element-copy-out-t30 Inv-loop μ-loop
+element-copy-out-t30 c = job-there (c .before)
+
+enum-known-next-3 : tie.Need-enum-known-next-3 Inv-loop μ-loop
+enum-known-next-3 c = search needs
+
+mul-t31 : tie.Need-mul-t31 Inv-loop μ-loop
+mul-t31 c = omega (arith, hold-there (c .before))
+
+element-copy-out-t34 : tie.Need-element-copy-out-t34 Inv-loop μ-loop
+element-copy-out-t34 c = hold-there (c .before)
+
+enum-known-next-4 : tie.Need-enum-known-next-4 Inv-loop μ-loop
+enum-known-next-4 c = search needs
+
+returns : tie.Need-returns Inv-loop μ-loop
+returns c =
+    let e = c .before .next4 .given in
+    let next = rw (e .1) at (comes-next (c .before .before .before)) in
+    rw (bad-next (c .before .before .before .before .loop .inv) (e .0 .0) (next .0) (next .1))
+
+enum-told-2 : tie.Need-enum-told-2 Inv-loop μ-loop
 enum-told-2 c = search needs
 
-verdict-of-requires : tie.Need-verdict-of-requires
-verdict-of-requires c κs = search needs
-
-returns-2 : tie.Need-returns-2
+returns-2 : tie.Need-returns-2 Inv-loop μ-loop
 returns-2 c =
-    let f = c .before .before .before in
-    let e = f .before .before in
-    let t = e .before .before .before .before .args .table in
-    let g = c .before .enum-told2 .given in
-    c .verdict-of .ensures
-    ∙ rw (speeds-refused t (accepted e) (g .0 .0) (g .0 .1 .0) (passed-stopped (speedsPassed t) (g .0 .0) (g .0 .1 .0) (sym (g .1) ∙ f .check-speeds .ensures)))
-    (rw (g .1) refl)
+    let next = rw (c .enum-told2 .given .1) at (comes-next (c .before .before)) in
+    rw (all-checked (c .before .before .before .loop .inv) (next .0) (next .1))
 
-check-jobs-requires : tie.Need-check-jobs-requires
-check-jobs-requires c κs =
-    let f = c .before .before .before in
-    let e = f .before .before in
-    let t = e .before .before .before .before .args .table in
-    let s = speeds (c .before) in
-    s .2 ∙ rw (speeds-standing t (accepted e) (s .0) (s .1))
+judge-record-requires : tie.Need-judge-record-requires Inv-loop μ-loop
+judge-record-requires c κs = c .before .before .before .before .loop .inv .counted .few .1
 
-enum-known-jobs : tie.Need-enum-known-jobs
-enum-known-jobs c = search needs
+enum-known-judgement : tie.Need-enum-known-judgement Inv-loop μ-loop
+enum-known-judgement c = search needs
 
-enum-told-3 : tie.Need-enum-told-3
+returns-3 : tie.Need-returns-3 Inv-loop μ-loop
+returns-3 c =
+    let j = c .before .before .before in
+    let (r, parsed, first) = comes (j .before .before .before) in
+    let e = c .before .judgement .given in
+    rw (refused-next (j .before .before .before .before .before .loop .inv) r (e .0 .0) first (fault j ∙ rw (e .1)))
+
+enum-told-3 : tie.Need-enum-told-3 Inv-loop μ-loop
 enum-told-3 c = search needs
 
-verdict-of-requires-2 : tie.Need-verdict-of-requires-2
-verdict-of-requires-2 c κs = search needs
+standing-after-requires : tie.Need-standing-after-requires Inv-loop μ-loop
+standing-after-requires c κs = c .before .before .before .before .before .before .before .loop .inv .counted .few
 
-returns-3 : tie.Need-returns-3
-returns-3 c =
-    let k = c .before .before .before in
-    let e = k .before .before .before .before .before .before in
-    let t = e .before .before .before .before .args .table in
-    let s = speeds (k .before .before) in
-    let g = c .before .enum-told3 .given in
-    c .verdict-of2 .ensures
-    ∙ rw (jobs-refused t (accepted e) (s .0) (s .1) (g .0 .0) (g .0 .1 .0) (passed-stopped (jobsPassed t) (g .0 .0) (g .0 .1 .0) (sym (g .1) ∙ k .check-jobs .ensures)))
-    (rw (g .1) refl)
+add-line : tie.Need-add-line Inv-loop μ-loop
+add-line c =
+    let counted = c .before .before .before .before .before .before .before .before .loop .inv .counted in
+    omega (arith, counted .few .0, counted .few .1, counted .few .2, counted .behind-records)
 
-check-holds-requires : tie.Need-check-holds-requires
-check-holds-requires c κs =
-    let k = c .before .before .before in
-    let e = k .before .before .before .before .before .before in
-    let t = e .before .before .before .before .args .table in
-    let s = speeds (k .before .before) in
-    let j = jobs (c .before) in
-    jobs-standing t (accepted e) (s .0) (s .1) (j .0) (j .1) (c .before .jobs .given .0 .0) (j .2)
+enum-known-parsed : tie.Need-enum-known-parsed Inv-loop μ-loop
+enum-known-parsed c = search needs
 
-verdict-of-requires-3 : tie.Need-verdict-of-requires-3
-verdict-of-requires-3 c κs = search needs
+mul-numbers : tie.Need-mul-numbers Inv-loop μ-loop
+mul-numbers c = omega (arith, job-room (c .before))
 
-returns-4 : tie.Need-returns-4
-returns-4 c =
-    let l = c .before .before .before in
-    let k = l .before .before in
-    let e = k .before .before .before .before .before .before in
-    let start = e .before .before .before .before in
-    let t = start .args .table in
-    let s = speeds (k .before .before) in
-    let j = jobs l in
-    let whole = sym (length-map (t .speeds) _) ∙ start .good .0 .1 .1 .1 .1 .1 .1 .1 .0 .1 .0 .1 in
-    c .verdict-of3 .ensures
-    ∙ rw (c .before .check-holds .ensures) (sym (holds-decide t (accepted e) (s .0) (s .1) (j .0) (j .1) whole))
+array-write-numbers : tie.Need-array-write-numbers Inv-loop μ-loop
+array-write-numbers c = omega (arith, job-room (c .before), c .before .before .before .before .before .before .before .before .before .before .before .loop .inv .number .whole)
+
+mul-requests : tie.Need-mul-requests Inv-loop μ-loop
+mul-requests c = omega (arith, job-room (c .before))
+
+array-write-requests : tie.Need-array-write-requests Inv-loop μ-loop
+array-write-requests c = omega (arith, job-room (c .before), c .before .before .before .before .before .before .before .before .before .before .before .loop .inv .request .whole)
+
+loop-less : tie.Need-loop-less Inv-loop μ-loop
+loop-less c = less (c .before .before .before)
+
+loop-again : tie.Need-loop-again Inv-loop μ-loop
+loop-again c = rw (c .before .parsed .given .1) at (accepted (c .before .before .before))
+
+loop-less-2 : tie.Need-loop-less-2 Inv-loop μ-loop
+loop-less-2 c = less (c .before)
+
+loop-again-2 : tie.Need-loop-again-2 Inv-loop μ-loop
+loop-again-2 c =
+    let l = c .before .before .before .before .before .before .before .before .before .loop in
+    let parsed = c .before .before .before .before .before .before .before .match .parsed in
+    -- the keys are those of all cases but the J, which is 2
+    let no-job : (j : Job) → parsed ≡ Parsed.Job j → ⊥ = λ j e. miss (0 ∷ 1 ∷ 3 ∷ 4 ∷ []) 2 tt (rw e at (c .match3 .keys2)) in
+    rw (not-stored (λ j. j .number) (l .before) parsed (l .numbers) no-job, not-stored (λ j. j .request) (l .before) parsed (l .requests) no-job) at
+    (accepted (c .before))
 
 pub check-table-spec : {M : Type 1} → statement M
 check-table-spec =
     tie.close
     (tie.spec
+    Inv-loop
+    μ-loop
     none-standing-requires
-    judge-clock-requires
-    enum-known-judgement
-    returns
+    loop-holds
+    next-of-requires
     enum-told
-    after-clock-requires
-    check-speeds-requires
-    enum-known-speeds
+    enum-known-next
+    mul-t23
+    element-copy-out-t26
+    enum-known-next-2
+    mul-t27
+    element-copy-out-t30
+    enum-known-next-3
+    mul-t31
+    element-copy-out-t34
+    enum-known-next-4
+    returns
     enum-told-2
-    verdict-of-requires
     returns-2
-    check-jobs-requires
-    enum-known-jobs
-    enum-told-3
-    verdict-of-requires-2
+    judge-record-requires
+    enum-known-judgement
     returns-3
-    check-holds-requires
-    verdict-of-requires-3
-    returns-4)
+    enum-told-3
+    standing-after-requires
+    add-line
+    enum-known-parsed
+    mul-numbers
+    array-write-numbers
+    mul-requests
+    array-write-requests
+    loop-less
+    loop-again
+    loop-less-2
+    loop-again-2)

@@ -1,22 +1,19 @@
 -- `listing::list` meets its contract: the text is read once, and what was read decides which lines are written. Assumes
 -- nothing.
-use mathlib.Core.Path.{_≡_, _∙_}
-use Rattle.listing.proofs.Listed.{listing-of-plan, listing-of-refusal}
-use Rattle.plans.proofs.Readings.{reading-done, reading-refused}
-use Rattle.plans.specs.Promises.{Plannable}
-use Rattle.rules.specs.Refusals.{read, taken}
-use Rattle.rules.specs.TableText.{recordsOf}
+use mathlib.Core.Path.{_∙_}
+use Rattle.grammar.proofs.Readings.{reading-refused}
+use Rattle.listing.proofs.Listed.{listing-of}
+use Rattle.listing.proofs.ReadTables.{ReadAs, own-records, read-as}
 use borrow.Author.Needs.{needs}
 use Rattle.listing.proofs.list.Statement.{statement}
 use Rattle.listing.proofs.list.Tie as tie
 
 -- what was read, where it is not refused
 read-it : (c : tie.After-enum-told)
-    → (read (c .before .before .before .before .before .args .text .now) ≡ taken (recordsOf (c .before .before .read .result .table)))
-    × Plannable (c .before .before .read .result .table)
+    → ReadAs (c .before .before .before .before .before .args .text .now) (c .before .before .read .result .table)
 read-it c =
     let done = c .before .before in
-    reading-done (done .before .before .before .args .text .now) (done .read .result) (done .read .ensures) (c .enum-told .given .1)
+    read-as (done .before .before .before .args .text .now) (done .read .result) (done .read .ensures) (c .enum-told .given .1)
 
 read-requires : tie.Need-read-requires
 read-requires c κs = search needs
@@ -36,14 +33,14 @@ returns c =
     let args = done .before .before .before .args in
     let told = c .before .before .before .before .before .verdict .given in
     c .before .before .list-refusal .ensures
-    ∙ listing-of-refusal (args .text .now) (args .out .now) (told .0 .0) (told .0 .1 .0)
+    ∙ listing-of (args .text .now) (args .out .now) _
     (reading-refused (args .text .now) (done .read .result) (told .0 .0) (told .0 .1 .0) (done .read .ensures) (told .1))
 
 enum-told : tie.Need-enum-told
 enum-told c = search needs
 
 list-plan-requires : tie.Need-list-plan-requires
-list-plan-requires c κs = read-it (c .before .before) .1
+list-plan-requires c κs = let r = read-it (c .before .before) in r .plannable _ (r .own-budget)
 
 same-length-2 : tie.Need-same-length-2
 same-length-2 c = search needs
@@ -53,7 +50,7 @@ returns-2 c =
     let done = c .before .before .before .before .before .before .before in
     let args = done .before .before .before .args in
     c .before .before .list-plan .ensures
-    ∙ listing-of-plan (args .text .now) (args .out .now) (recordsOf (done .read .result .table)) (read-it (c .before .before .before .before .before) .0)
+    ∙ listing-of (args .text .now) (args .out .now) _ (own-records (read-it (c .before .before .before .before .before)))
 
 pub list-spec : {M : Type 1} → statement M
 list-spec =

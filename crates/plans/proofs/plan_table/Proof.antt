@@ -3,9 +3,10 @@ use mathlib.Core.Path.{_≡_, sym, _∙_}
 use native.Mathlib.Omega.{arith}
 use lib.ListN.{length, length-map, take}
 use lib.Seq.{length-take-le}
-use Rattle.plans.proofs.Deciding.{jobs-counted}
+use Rattle.plans.proofs.Deciding.{by-its-parts, decided-beside, jobs-counted}
 use Rattle.plans.proofs.Leaving.{buffers-left}
-use Rattle.rules.specs.TableText.{mostJobs, recordsOf}
+use Rattle.plans.specs.Promises.{DecidedAs}
+use Rattle.rules.specs.TableText.{mostJobs, recordsOf, withBudget}
 use borrow.Author.Needs.{needs}
 use Rattle.plans.proofs.plan_table.Statement.{statement}
 use Rattle.plans.proofs.plan_table.Tie as tie
@@ -19,28 +20,47 @@ all-places c = search needs
 all-fates : (c : tie.After-decide) → length (c .decide .result .fates) ≡ mostJobs
 all-fates c = search needs
 
+-- what stood at the start
+abbrev started : tie.After-decide → tie.Start
+started c = c .before .before .before .before .before .before
+
+-- what was decided, of the table with the budget beside it
+decided-as : (c : tie.After-decide)
+    → DecidedAs (withBudget (recordsOf (started c .args .table)) (started c .args .budget)) (c .decide .result)
+decided-as c =
+    let start = started c in
+    let columns = c .before .before .before .columns-of in
+    decided-beside (start .args .table) (start .args .budget) (c .decide .result)
+    (c .decide .ensures (start .args .table .jobs)
+    (by-its-parts (start .args .table) (start .args .budget) (columns .result) (start .pre .0) (all-jobs start) (columns .ensures)))
+
 planned-length : (c : tie.After-decide)
     → length (take (c .decide .result .count) (c .decide .result .places)) ≡ c .decide .result .count
 planned-length c =
     length-take-le (c .decide .result .count) (c .decide .result .places)
-    (omega (arith, all-places c, c .decide .ensures .placed .few))
+    (omega (arith, all-places c, decided-as c .placed .few))
 
 fates-length : (c : tie.After-decide)
-    → length (take (c .before .before .before .before .args .table .«job_count») (c .decide .result .fates))
-    ≡ c .before .before .before .before .args .table .«job_count»
+    → length (take (started c .args .table .«job_count») (c .decide .result .fates))
+    ≡ started c .args .table .«job_count»
 fates-length c =
-    length-take-le (c .before .before .before .before .args .table .«job_count») (c .decide .result .fates)
-    (omega (arith, all-fates c, c .before .before .before .before .pre .0 .few-jobs))
+    length-take-le (started c .args .table .«job_count») (c .decide .result .fates)
+    (omega (arith, all-fates c, started c .pre .0 .few-jobs))
 
 columns-of-requires : tie.Need-columns-of-requires
 columns-of-requires c κs = search needs
 
 decide-requires : tie.Need-decide-requires
-decide-requires c κs = search needs
+decide-requires c κs =
+    let start = c .before .before .before .before .before in
+    let columns = c .before .before .columns-of in (
+      start .args .table .jobs,
+      by-its-parts (start .args .table) (start .args .budget) (columns .result) (start .pre .0) (all-jobs start) (columns .ensures),
+    )
 
 array-share-prefix-places : tie.Need-array-share-prefix-places
 array-share-prefix-places c =
-    let decided = c .before .before .before in omega (arith, all-places decided, decided .decide .ensures .placed .few)
+    let decided = c .before .before .before in omega (arith, all-places decided, decided-as decided .placed .few)
 
 slice-aggregate-put-order : tie.Need-slice-aggregate-put-order
 slice-aggregate-put-order c = sym (planned-length (c .before .before .before .before))
@@ -48,13 +68,13 @@ slice-aggregate-put-order c = sym (planned-length (c .before .before .before .be
 put-order-requires : tie.Need-put-order-requires
 put-order-requires c κs =
     let decided = c .before .before .before .before .before .before in
-    let start = c .before .before .before .before .before .before .before .before .before .before in
-    (omega (arith, planned-length decided, decided .decide .ensures .placed .few, start .pre .1), decided .decide .ensures .placed .below)
+    let start = started decided in
+    (omega (arith, planned-length decided, decided-as decided .placed .few, start .pre .1), decided-as decided .placed .below)
 
 array-share-prefix-by-job : tie.Need-array-share-prefix-by-job
 array-share-prefix-by-job c =
     let decided = c .before .before .before .before .before .before .before .before .before .before in
-    omega (arith, all-fates decided, decided .before .before .before .before .pre .0 .few-jobs)
+    omega (arith, all-fates decided, started decided .pre .0 .few-jobs)
 
 slice-aggregate-put-fates : tie.Need-slice-aggregate-put-fates
 slice-aggregate-put-fates c = sym (fates-length (c .before .before .before .before .before .before .before .before .before .before .before))
@@ -62,7 +82,7 @@ slice-aggregate-put-fates c = sym (fates-length (c .before .before .before .befo
 put-fates-requires : tie.Need-put-fates-requires
 put-fates-requires c κs =
     let decided = c .before .before .before .before .before .before .before .before .before .before .before in
-    let start = decided .before .before .before .before in
+    let start = started decided in
     omega (arith, fates-length decided, start .pre .0 .few-jobs, start .pre .2)
 
 same-length : tie.Need-same-length
@@ -74,13 +94,13 @@ same-length-2 c = search needs
 returns : tie.Need-returns
 returns c =
     let decided = c .before .before .before .before .before .before .before .before .before .before .before .before .before .before in
-    let start = decided .before .before .before .before in
+    let start = started decided in
     let table = start .args .table in
-    buffers-left (recordsOf table) (decided .decide .result) (decided .before .columns-of .result .number)
-    (decided .decide .ensures) (decided .before .columns-of .ensures .number) (all-places decided) (all-fates decided)
+    buffers-left (withBudget (recordsOf table) (start .args .budget)) (decided .decide .result) (decided .before .before .before .columns-of .result .number)
+    (decided-as decided) (decided .before .before .before .columns-of .ensures .number) (all-places decided) (all-fates decided)
     (start .pre .0 .valid .few-jobs) (start .args .order .now) (start .args .fates .now)
     (c .before .before .before .before .before .before .before .put-order .last .0) (c .before .before .put-fates .last .0) (table .«job_count»)
-    (jobs-counted table (all-jobs start) (start .pre .0)) (c .before .before .before .before .before .before .before .put-order .ensures) (c .before .before .put-fates .ensures)
+    (jobs-counted table (start .args .budget) (all-jobs start) (start .pre .0)) (c .before .before .before .before .before .before .before .put-order .ensures) (c .before .before .put-fates .ensures)
 
 pub plan-table-spec : {M : Type 1} → statement M
 plan-table-spec =

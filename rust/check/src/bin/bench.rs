@@ -1,10 +1,11 @@
-//! What a call costs: read, and read with plan, for 8, 16, 32 and 64 jobs of four families, the library beside the
-//! reference. It calls the library linked: with the feature `native`, which off x86-64 needs `tools/native`.
+//! What a call costs, the library beside the reference, for 8, 16, 32 and 64 jobs of four families: to read a text; to
+//! plan a table that has been read, with a budget beside it; and both, as for the first plan of a text. It calls the
+//! library linked: with the feature `native`, which off x86-64 needs `tools/native`.
 //!
 //! Usage: bench                              nanoseconds
 //!        bench instructions                 instructions, counted by valgrind
 //!        bench WHO CALL TIMES FAMILY JOBS   so many calls, to be counted or watched from outside: WHO is library or
-//!                                           reference, CALL is read or plan, FAMILY is 0 to 3
+//!                                           reference, CALL is read, plan or "read + plan", FAMILY is 0 to 3
 
 #![forbid(unsafe_code)]
 
@@ -14,12 +15,13 @@ use std::time::{Duration, Instant};
 
 use cuddlelamb::calls;
 use cuddlelamb_check::generate;
+use cuddlelamb_check::linked::wrappers_table;
 use cuddlelamb_check::reference::{
     self, Hold, Job, Speed, Table, HOLDS, JOBS, LAST_TIME, MOST_BUDGET, SUPPLIED_SPEEDS,
 };
 
 const SIZES: [usize; 4] = [8, 16, 32, 64];
-const CALLS: [&str; 2] = ["read", "plan"];
+const CALLS: [&str; 3] = ["read", "plan", "read + plan"];
 const FAMILIES: [&str; 4] =
     ["nothing waits", "ten times overloaded", "long chains, all accepted", "long chains, ten times overloaded"];
 
@@ -38,29 +40,54 @@ fn main() {
         }
         [who, call, times, family, jobs] => {
             let family = FAMILIES[family.parse::<usize>().expect("a family's number")];
-            let (text, _) = text_of(family, jobs.parse().expect("how many jobs"));
+            let input = Input::new(family, jobs.parse().expect("how many jobs"));
             let one = call_of(who, call);
-            (0..times.parse().expect("how many times")).for_each(|_| one(&text));
+            (0..times.parse().expect("how many times")).for_each(|_| one(&input));
         }
         _ => panic!("usage: bench | bench instructions | bench WHO CALL TIMES FAMILY JOBS"),
     }
 }
 
-/// A call to be measured.
-type Call = fn(&[u8]);
+/// What the calls are given: a text, and its table in the library's form and in the reference's.
+struct Input {
+    text: Vec<u8>,
+    library: cuddlelamb::Table,
+    reference: Table,
+}
+
+impl Input {
+    fn new(name: &str, jobs: usize) -> Input {
+        let table = family(name, jobs);
+        Input { text: generate::text_of(&table), library: wrappers_table(&table), reference: table }
+    }
+}
+
+/// A call to be measured. The budget beside a table is the one that its text says: the plan is the same with and without
+/// reading.
+type Call = fn(&Input);
 
 fn call_of(who: &str, call: &str) -> Call {
     match (who, call) {
-        ("library", "read") => |text| _ = black_box(calls::read(black_box(text))),
-        ("library", "plan") => {
-            |text| with_buffers(|order, fates| _ = black_box(calls::plan(black_box(text), order, fates)))
-        }
-        ("reference", "read") => |text| _ = black_box(reference::read(black_box(text))),
-        ("reference", "plan") => {
-            |text| with_buffers(|order, fates| _ = black_box(reference::plan(black_box(text), order, fates)))
+        ("library", "read") => |input| _ = black_box(calls::read(black_box(&input.text))),
+        ("library", "plan") => |input| plan_by_library(&input.library),
+        ("library", "read + plan") => |input| plan_by_library(&calls::read(black_box(&input.text)).value),
+        ("reference", "read") => |input| _ = black_box(reference::read(black_box(&input.text))),
+        ("reference", "plan") => |input| plan_by_reference(&input.reference),
+        ("reference", "read + plan") => {
+            |input| plan_by_reference(&reference::read(black_box(&input.text)).expect("a good text"))
         }
         _ => panic!("who calls, and what"),
     }
+}
+
+fn plan_by_library(table: &cuddlelamb::Table) {
+    let (table, budget) = black_box((table, table.budget));
+    with_buffers(|order, fates| _ = black_box(calls::plan(table, budget, order, fates)));
+}
+
+fn plan_by_reference(table: &Table) {
+    let (table, budget) = black_box((table, table.budget));
+    with_buffers(|order, fates| _ = black_box(reference::plan(table, budget, order, fates)));
 }
 
 fn with_buffers(call: impl FnOnce(&mut [u64], &mut [u64])) {
@@ -116,11 +143,10 @@ fn make_chains(table: &mut Table) {
     }
 }
 
-/// The text of a family's table and how many of its jobs are planned.
-fn text_of(name: &str, jobs: usize) -> (Vec<u8>, usize) {
-    let text = generate::text_of(&family(name, jobs));
-    let plan = reference::plan(&text, &mut [0; JOBS], &mut [0; JOBS]).expect("a good table");
-    (text, plan.count)
+/// How many jobs of a family's table are planned.
+fn planned(name: &str, jobs: usize) -> usize {
+    let table = family(name, jobs);
+    reference::plan(&table, table.budget, &mut [0; JOBS], &mut [0; JOBS]).expect("a good table").count
 }
 
 // ---- What is measured and printed ------------------------------------------------------------------------------------
@@ -133,14 +159,14 @@ fn print_rows(unit: &str, measure: impl Fn(usize, &str, usize) -> Costs) {
     println!("| family | jobs | planned | call | library, {unit} | growth | reference, {unit} | growth | ratio |");
     println!("|---|--:|--:|---|--:|--:|--:|--:|--:|");
     for (family, name) in FAMILIES.iter().enumerate() {
-        for (call, call_name) in CALLS.iter().zip(["read", "read + plan"]) {
+        for call in CALLS {
             let mut before: Option<Costs> = None;
             for jobs in SIZES {
                 let (library, reference) = measure(family, call, jobs);
                 let growth = |now: f64, then: Option<f64>| then.map_or("".into(), |then| format!("{:.2}", now / then));
                 println!(
-                    "| {name} | {jobs} | {} | {call_name} | {library:.0} | {} | {reference:.0} | {} | {:.2} |",
-                    text_of(name, jobs).1,
+                    "| {name} | {jobs} | {} | {call} | {library:.0} | {} | {reference:.0} | {} | {:.2} |",
+                    planned(name, jobs),
                     growth(library, before.map(|costs| costs.0)),
                     growth(reference, before.map(|costs| costs.1)),
                     library / reference
@@ -153,11 +179,11 @@ fn print_rows(unit: &str, measure: impl Fn(usize, &str, usize) -> Costs) {
 
 /// Library and reference in turns, each the least of seven measures of as many calls as take some milliseconds.
 fn nanoseconds(family: usize, call: &str, jobs: usize) -> Costs {
-    let (text, _) = text_of(FAMILIES[family], jobs);
+    let input = Input::new(FAMILIES[family], jobs);
     let (library, reference) = (call_of("library", call), call_of("reference", call));
     let timed = |one: Call, times: u32| {
         let start = Instant::now();
-        (0..times).for_each(|_| one(&text));
+        (0..times).for_each(|_| one(&input));
         start.elapsed()
     };
     let mut times = 1;
