@@ -1,6 +1,6 @@
 /* Reads a table once and plans it with each budget named: plan FILE [BUDGET ..], where FILE - is standard input.
- * Without a budget it takes the table's own. It prints the plans and the fates, the listings, then what a call says that
- * refuses, an allocation and a cost table.
+ * Without a budget it takes the table's own. It prints the plans with the fates and the rooms, the listings, then what a
+ * call says that refuses, an allocation and a cost table.
  * Exit status: 1 where the table or a budget was refused; 2 where there is no table to read, where a budget is no
  * number, and where the output cannot be written. */
 #include <cuddlelamb.h>
@@ -44,14 +44,37 @@ static bool print_plan(const struct cuddlelamb_table *table, uint64_t budget) {
     return true;
 }
 
-/* A plan for each budget, or one for the table's own where none is named; whether none was refused. */
+/* How much of one budget the plan leaves at top cost, after each turn and at the end, or its refusal. */
+static bool print_rooms(const struct cuddlelamb_table *table, uint64_t budget) {
+    uint64_t turns[CUDDLELAMB_JOBS] = {0};
+    uint64_t rooms[CUDDLELAMB_JOBS] = {0};
+    struct cuddlelamb_rooms_answer told =
+        cuddlelamb_rooms(*table, budget, turns, CUDDLELAMB_JOBS, rooms, CUDDLELAMB_JOBS);
+    printf("rooms with budget %" PRIu64, budget);
+    if (told.number != 0) {
+        print_refusal("", told.number, told.line);
+        return false;
+    }
+    printf(": %" PRIu64 " turns, %" PRIu64 " units left\n", told.turns, told.room);
+    for (uint64_t at = 0; at < told.turns; at++) {
+        printf("after the turn of job %" PRIu64 ": %" PRIu64 "\n", turns[at], rooms[at]);
+    }
+    return true;
+}
+
+static bool print_plan_and_rooms(const struct cuddlelamb_table *table, uint64_t budget) {
+    bool planned = print_plan(table, budget);
+    return print_rooms(table, budget) && planned;
+}
+
+/* Plan and rooms for each budget, or for the table's own where none is named; whether none was refused. */
 static bool print_plans(const struct cuddlelamb_table *table, const uint64_t *budgets, size_t count) {
     if (count == 0) {
-        return print_plan(table, table->budget);
+        return print_plan_and_rooms(table, table->budget);
     }
     bool good = true;
     for (size_t at = 0; at < count; at++) {
-        good = print_plan(table, budgets[at]) && good;
+        good = print_plan_and_rooms(table, budgets[at]) && good;
     }
     return good;
 }

@@ -15,7 +15,7 @@
  * - A buffer is at most PTRDIFF_MAX bytes long, all of its places may be read, and those of a buffer that is not const may
  *   be written; it holds something (set it to 0, say) before it is lent. No two buffers of a call overlap.
  * - There are 37,000 bytes of stack left: measured, not proved. The most, some 36,000, is what the two calls that list take;
- *   cuddlelamb_plan takes some 29,000, the table that is handed to it counted in.
+ *   cuddlelamb_plan takes some 29,000 and cuddlelamb_rooms no more, the table that is handed to them counted in.
  *
  * The numbers of a refusal:
  *    1  the line has none of the four shapes: letter, field count, an empty field, a byte that is no digit, a leading
@@ -43,7 +43,7 @@ extern "C" {
 
 enum {
     CUDDLELAMB_SPEEDS = 16,  /* places for F lines in a table */
-    CUDDLELAMB_JOBS = 64,    /* places for J lines, and the least length of an order or fate buffer */
+    CUDDLELAMB_JOBS = 64,    /* places for J lines, and the least length of an order, fate, turn or room buffer */
     CUDDLELAMB_HOLDS = 32,   /* places for H lines */
     CUDDLELAMB_COSTS = 7,    /* costs of a supplied model */
     CUDDLELAMB_TEXT = 3653,  /* bytes of the longest valid text: room enough for cuddlelamb_write */
@@ -85,7 +85,7 @@ struct cuddlelamb_hold {
 /* A table: the T line, the counts of the other lines, and of each letter the first so many places. */
 struct cuddlelamb_table {
     uint64_t clock;  /* 0..1,000,000,000 ms */
-    uint64_t budget; /* 0..10^15 units; cuddlelamb_plan plans with the one beside the table */
+    uint64_t budget; /* 0..10^15 units; cuddlelamb_plan and cuddlelamb_rooms plan with the one beside the table */
     uint64_t speed_count;
     uint64_t job_count;
     uint64_t hold_count;
@@ -100,6 +100,13 @@ struct cuddlelamb_plan_answer {
     uint64_t count;  /* how many jobs are planned */
     uint64_t speed;  /* MHz */
     uint64_t energy; /* units */
+};
+
+struct cuddlelamb_rooms_answer {
+    uint64_t number;
+    uint64_t line;
+    uint64_t turns; /* how many turns there were */
+    uint64_t room;  /* units left at the end, at top cost */
 };
 
 struct cuddlelamb_text_answer {
@@ -136,6 +143,7 @@ CUDDLELAMB_SIZE(cuddlelamb_job, 48);
 CUDDLELAMB_SIZE(cuddlelamb_hold, 16);
 CUDDLELAMB_SIZE(cuddlelamb_table, 3880);
 CUDDLELAMB_SIZE(cuddlelamb_plan_answer, 40);
+CUDDLELAMB_SIZE(cuddlelamb_rooms_answer, 32);
 CUDDLELAMB_SIZE(cuddlelamb_text_answer, 24);
 CUDDLELAMB_SIZE(cuddlelamb_table_answer, 3896);
 CUDDLELAMB_SIZE(cuddlelamb_cycles_answer, 24);
@@ -143,7 +151,8 @@ CUDDLELAMB_SIZE(cuddlelamb_costs_answer, 72);
 #undef CUDDLELAMB_SIZE
 
 /* Reads a text: the table has the text's records, in their order, and 0 in every unused place.
- * Refused 1 to 7, with the first bad line; the table is then all 0, which cuddlelamb_plan and cuddlelamb_write refuse. */
+ * Refused 1 to 7, with the first bad line; the table is then all 0, which cuddlelamb_plan, cuddlelamb_rooms and
+ * cuddlelamb_write refuse. */
 struct cuddlelamb_table_answer cuddlelamb_read(const uint8_t *text, size_t text_length);
 
 /* Plans a table with the budget given beside it, in the place of the table's own. The first `count` places of `order` are
@@ -158,6 +167,18 @@ struct cuddlelamb_table_answer cuddlelamb_read(const uint8_t *text, size_t text_
  * the T: the table's own budget is checked too, and after that it is not looked at. */
 struct cuddlelamb_plan_answer cuddlelamb_plan(struct cuddlelamb_table table, uint64_t budget, uint64_t *order,
                                               size_t order_length, uint64_t *fates, size_t fates_length);
+
+/* Plans a table as cuddlelamb_plan does and tells how much room is left after each turn: the budget given beside the table
+ * less what all cycles of the plan, as it then stands, cost at the last F. Each job that is neither late alone nor taken out
+ * of a ring has a turn. The first places of the buffer `turns`, as many as the answer's `turns` says, are these jobs' numbers
+ * in the order of their turns, as many places of `rooms` are the room after each, and all places after them are 0. A turn in
+ * which nothing comes into the plan leaves the room as it was, be it that the job is planned already, that its chain gives
+ * no worth, or that it would be out of time or of budget. The answer's `room` is what the final plan leaves; where nothing
+ * is planned, that is the whole budget.
+ * Refused as cuddlelamb_plan is, in the same order: 8 with line 0, where `turns` or `rooms` has fewer than 64 places. Then 2
+ * with line 1, where the budget beside the table is above 10^15. Then 2 to 7 as cuddlelamb_write refuses the records. */
+struct cuddlelamb_rooms_answer cuddlelamb_rooms(struct cuddlelamb_table table, uint64_t budget, uint64_t *turns,
+                                                size_t turns_length, uint64_t *rooms, size_t rooms_length);
 
 /* Plans a text with its own budget and writes the listing to the front of `out`; the bytes after it stay as they were. The
  * listing is a line "P speed energy count", for each planned job in order a line "O job finish", and for each other job in

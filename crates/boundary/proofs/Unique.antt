@@ -11,11 +11,13 @@ use Rattle.boundary.proofs.cuddlelamb_list.Reads as list
 use Rattle.boundary.proofs.cuddlelamb_list_with_budget.Reads as list-with
 use Rattle.boundary.proofs.cuddlelamb_plan.Reads as plan
 use Rattle.boundary.proofs.cuddlelamb_read.Reads as read
+use Rattle.boundary.proofs.cuddlelamb_rooms.Reads as telling
 use Rattle.boundary.proofs.cuddlelamb_write.Reads as write
-use Rattle.boundary.specs.Told.{AllocateTold, CostsTold, ListTold, ListWithTold, PlanTold, ReadTold, WriteTold, costsSays, cyclesSays, planSays, tableSays, textSays}
+use Rattle.boundary.specs.Told.{AllocateTold, CostsTold, ListTold, ListWithTold, PlanTold, ReadTold, RoomsTold, WriteTold, costsSays, cyclesSays, planSays, roomsSays, tableSays, textSays}
 use Rattle.boundary.specs.declared.CostsAnswer.{CostsAnswer}
 use Rattle.boundary.specs.declared.CyclesAnswer.{CyclesAnswer}
 use Rattle.boundary.specs.declared.PlanAnswer.{PlanAnswer}
+use Rattle.boundary.specs.declared.RoomsAnswer.{RoomsAnswer}
 use Rattle.boundary.specs.declared.TableAnswer.{TableAnswer}
 use Rattle.boundary.specs.declared.TextAnswer.{TextAnswer}
 use Rattle.laws.proofs.Unique.{known-by}
@@ -32,6 +34,14 @@ plan-known = known-by planSays (λ a. record {
   count = nth (a .values) 0;
   speed = nth (a .values) 1;
   energy = nth (a .values) 2;
+}) (λ r. refl)
+
+rooms-known : (r s : RoomsAnswer) → roomsSays r ≡ roomsSays s → r ≡ s
+rooms-known = known-by roomsSays (λ a. record {
+  number = a .number;
+  line = a .line;
+  turns = nth (a .values) 0;
+  room = nth (a .values) 1;
 }) (λ r. refl)
 
 pub text-known : (r s : TextAnswer) → textSays r ≡ textSays s → r ≡ s
@@ -55,6 +65,15 @@ plan-unique table budget order fates r s a b a′ b′ p q = (
   plan-known r s (p .answer ∙ sym (q .answer)),
   p .order-left ∙ sym (q .order-left),
   p .fates-left ∙ sym (q .fates-left),
+)
+
+pub rooms-unique : (table : Table) (budget : ℕ) (turns rooms : List ℕ) (r s : RoomsAnswer) (a b a′ b′ : List ℕ)
+    → RoomsTold (takenWith table budget) turns rooms r a b → RoomsTold (takenWith table budget) turns rooms s a′ b′
+    → (r ≡ s) × (a ≡ a′) × (b ≡ b′)
+rooms-unique table budget turns rooms r s a b a′ b′ p q = (
+  rooms-known r s (p .answer ∙ sym (q .answer)),
+  p .turns-left ∙ sym (q .turns-left),
+  p .rooms-left ∙ sym (q .rooms-left),
 )
 
 pub list-unique : (text out : List ℕ) (r s : TextAnswer) (a b : List ℕ) → ListTold text out r a → ListTold text out s b
@@ -84,6 +103,11 @@ pub plan-says : (l : Lfts 2) (table : Table) (budget : ℕ) (order fates order�
     → plan.Learnt l (table, (budget, (order, (fates, tt)))) r (table, (budget, (order′, (fates′, tt))))
     ≡ PlanTold (takenWith table budget) (now order) (now fates) r (now order′) (now fates′)
 plan-says l table budget order fates order′ fates′ r = refl
+
+pub rooms-says : (l : Lfts 2) (table : Table) (budget : ℕ) (turns rooms turns′ rooms′ : RefT (List ℕ)) (r : RoomsAnswer)
+    → telling.Learnt l (table, (budget, (turns, (rooms, tt)))) r (table, (budget, (turns′, (rooms′, tt))))
+    ≡ RoomsTold (takenWith table budget) (now turns) (now rooms) r (now turns′) (now rooms′)
+rooms-says l table budget turns rooms turns′ rooms′ r = refl
 
 pub list-says : (l : Lfts 2) (text out out′ : RefT (List ℕ)) (r : TextAnswer)
     → list.Learnt l (text, (out, tt)) r (text, (out′, tt)) ≡ ListTold (now text) (now out) r (now out′)

@@ -5,6 +5,7 @@ use Prim.Native.Nat.{ℕ}
 use Rattle.boundary.specs.declared.CostsAnswer.{CostsAnswer}
 use Rattle.boundary.specs.declared.CyclesAnswer.{CyclesAnswer}
 use Rattle.boundary.specs.declared.PlanAnswer.{PlanAnswer}
+use Rattle.boundary.specs.declared.RoomsAnswer.{RoomsAnswer}
 use Rattle.boundary.specs.declared.TableAnswer.{TableAnswer}
 use Rattle.boundary.specs.declared.TextAnswer.{TextAnswer}
 use Rattle.rules.specs.Answers.{Answer}
@@ -13,6 +14,7 @@ use Rattle.rules.specs.Cycles.{allocation}
 use Rattle.rules.specs.Listing.{listing, listingWith}
 use Rattle.rules.specs.Plan.{planningOf}
 use Rattle.rules.specs.Refusals.{reading, writing, Taken}
+use Rattle.rules.specs.Rooms.{panelOf}
 use Rattle.rules.specs.declared.Table.{Table}
 
 -- each answer, as the rules write one
@@ -30,6 +32,9 @@ cyclesSays a = record { number = a .number; line = a .line; values = a .cycles �
 
 abbrev pub costsSays : CostsAnswer → Answer
 costsSays a = record { number = a .number; line = a .line; values = a .costs }
+
+abbrev pub roomsSays : RoomsAnswer → Answer
+roomsSays a = record { number = a .number; line = a .line; values = a .turns ∷ a .room ∷ [] }
 
 -- "cuddlelamb_plan"
 pub record PlanTold (k : Taken) (order fates : List ℕ) (r : PlanAnswer) (order′ fates′ : List ℕ) : Type 0 where
@@ -64,3 +69,9 @@ pub record AllocateTold (mean variance assurance : ℕ) (r : CyclesAnswer) : Typ
 -- "cuddlelamb_costs"
 pub record CostsTold (model : ℕ) (r : CostsAnswer) : Type 0 where
   pub answer : costsSays r ≡ suppliedCosts model
+
+-- "cuddlelamb_rooms"
+pub record RoomsTold (k : Taken) (turns rooms : List ℕ) (r : RoomsAnswer) (turns′ rooms′ : List ℕ) : Type 0 where
+  pub answer : roomsSays r ≡ panelOf k turns rooms .answer
+  pub turns-left : turns′ ≡ panelOf k turns rooms .turns
+  pub rooms-left : rooms′ ≡ panelOf k turns rooms .rooms

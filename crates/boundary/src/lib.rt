@@ -8,6 +8,7 @@ use planner::plan_into;
 use reader::read;
 use rules::Allocated;
 use rules::Decision;
+use rules::Panel;
 use rules::Table;
 use rules::Verdict;
 use rules::Written;
@@ -15,7 +16,7 @@ use rules::number_of;
 use writer::write;
 ghost use mathlib.Core.Path.{_≡_};
 ghost use Rattle.boundary.specs.Numbers.{textAnswer, toldOf};
-ghost use Rattle.boundary.specs.Told.{AllocateTold, CostsTold, ListTold, ListWithTold, PlanTold, ReadTold, WriteTold};
+ghost use Rattle.boundary.specs.Told.{AllocateTold, CostsTold, ListTold, ListWithTold, PlanTold, ReadTold, RoomsTold, WriteTold};
 ghost use Rattle.rules.specs.Plan.{takenWith};
 
 // A plan's job count, speed and energy.
@@ -58,6 +59,15 @@ pub struct CostsAnswer {
     pub number: u64,
     pub line: u64,
     pub costs: [u64; 7],
+}
+
+// How many turns there were, and the room that is left at the end.
+#[repr(C)]
+pub struct RoomsAnswer {
+    pub number: u64,
+    pub line: u64,
+    pub turns: u64,
+    pub room: u64,
 }
 
 // A verdict's number and line.
@@ -201,5 +211,31 @@ pub extern "C" fn cuddlelamb_costs(model: u64) -> CostsAnswer
         number: verdict.number,
         line: verdict.line,
         costs: costs,
+    }
+}
+
+#[no_mangle]
+pub extern "C" fn cuddlelamb_rooms(
+    table: Table,
+    budget: u64,
+    turns: &mut [u64],
+    rooms: &mut [u64],
+) -> RoomsAnswer
+    ensures { λ r. ⌜ RoomsTold (takenWith table budget) (now (turns .entry)) (now (rooms .entry)) r (now (turns .exit)) (now (rooms .exit)) ⌝ }
+{
+    let panel = planner::rooms(table, budget, turns, rooms);
+    match panel {
+        Panel::Told { turns, room } => RoomsAnswer {
+            number: 0,
+            line: 0,
+            turns: turns as u64,
+            room: room,
+        },
+        Panel::Refused(why, line) => RoomsAnswer {
+            number: number_of(why),
+            line: line,
+            turns: 0,
+            room: 0,
+        },
     }
 }

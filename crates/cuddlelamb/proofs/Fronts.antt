@@ -1,6 +1,7 @@
--- What was read is a front part of its buffer. Where a buffer has room for the longest listing, no listing is refused, and
--- the front of the buffer is the whole of it. A word of the command line is a budget where it is a number. Assumes nothing.
-use mathlib.Core.Bool.{false}
+-- What was read is a front part of its buffer. Where a buffer has room for the lines of all rooms, and no listing is longer, nothing
+-- that is asked for is refused, and the front of the buffer is the whole of it. A word of the command line is a budget where it is
+-- a number. Assumes nothing.
+use mathlib.Core.Bool.{Bool, true, false}
 use mathlib.Core.List.{List, [], _∷_, _++_}
 use mathlib.Core.Option.{Option, none, some}
 use mathlib.Core.Path.{_≡_, refl, sym, ap, _∙_}
@@ -10,16 +11,16 @@ use borrow.Author.Tests.{le-leb}
 use lib.Dec.{eqb}
 use lib.ListN.{drop, length, length-append}
 use lib.Seq.{take-at}
-use Rattle.cuddlelamb.specs.Program.{BudgetIn, FrontOf, ListedAs, asks}
+use Rattle.cuddlelamb.specs.Program.{BudgetIn, FrontOf, ListedAs, asks, linesAsked}
 use Rattle.cuddlelamb.specs.declared.Asked.{Asked}
 use Rattle.cuddlelamb.specs.declared.Input.{Input}
 use Rattle.io.proofs.Counting.{counts}
 use Rattle.io.specs.Counts.{Counts}
 use Rattle.laws.proofs.Unique.{refusal-not-0}
-use Rattle.listing.proofs.LongestListing.{longest-listing, longest-with-budget, mostListed}
+use Rattle.listing.proofs.LongestListing.{longest-listing, longest-with-budget}
 use Rattle.listing.specs.Listed.{wrote}
+use Rattle.roomlines.proofs.LongestRooms.{longest-rooms, longest-rooms-with-budget, mostRoomBytes}
 use Rattle.rules.specs.Answers.{Answer, fieldSays, good, refused}
-use Rattle.rules.specs.Listing.{listedWith, listing, listingOf, listingWith}
 use Rattle.rules.specs.Lists.{any}
 use Rattle.rules.specs.Refusals.{AfterWriting, written}
 use Rattle.rules.specs.TableText.{isDigit, nth, numberIn}
@@ -58,25 +59,18 @@ module _ (lines out : List ℕ) (room : length lines ≤ length out) where
       let told = rw refusal-told at (e ∙ always-written) in
       refusal-not-0 why (ap (λ (a : AfterWriting). a .answer .number) told)
 
--- the room that is enough for every listing, with the text's own budget or with one beside it
-pub listing-fits : (text out : List ℕ) → mostListed ≤ length out → length (listingOf text) ≤ length out
-listing-fits text out room = omega (arith, longest-listing text)
+-- the room that is enough for whatever is asked for
+pub lines-fit : (text : List ℕ) (rooms : Bool) (asked : Asked) (out : List ℕ) → mostRoomBytes ≤ length out
+    → length (linesAsked text rooms asked) ≤ length out
+lines-fit text true Asked.Own out room = omega (arith, longest-rooms text)
+lines-fit text false Asked.Own out room = omega (arith, longest-listing text)
+lines-fit text true (Asked.Beside budget) out room = omega (arith, longest-rooms-with-budget text budget)
+lines-fit text false (Asked.Beside budget) out room = omega (arith, longest-with-budget text budget)
+lines-fit text rooms Asked.Unknown out room = omega arith
 
-pub listing-with-fits : (text : List ℕ) (budget : ℕ) (out : List ℕ) → mostListed ≤ length out
-    → length (listedWith text budget) ≤ length out
-listing-with-fits text budget out room = omega (arith, longest-with-budget text budget)
-
-pub listing-written : (text out : List ℕ) → listing text out ≡ written (listingOf text) out
-unfolding listing
-listing-written text out = refl
-
-pub listing-with-written : (text : List ℕ) (budget : ℕ) (out : List ℕ)
-    → listingWith text budget out ≡ written (listedWith text budget) out
-unfolding listingWith
-listing-with-written text budget out = refl
-
-pub nothing-listed : (buffer : List ℕ) → ListedAs [] buffer 0
-nothing-listed buffer = record { counts = counts 0 buffer (omega arith); whole = refl }
+pub nothing-written : (out : List ℕ) → wrote (Written.Length 0) out ≡ written [] out
+unfolding written
+nothing-written out = rw (le-leb 0 (length out) (omega arith))
 
 -- A word that is a number, and one that is none.
 module _ (buffer : List ℕ) (taken : FieldTaken)

@@ -3,7 +3,7 @@
 -- 01 tells it, by number, line and values (rules/specs/Answers, boundary/specs/Told); two answers that say the same are the same
 -- (laws/proofs/Unique). The words of the statements are in specs/; `Promised` is a call's contract as a caller learns it, and where
 -- a line names a promise's record, that the contract is that record is said in the crate's proofs/Unique. The reasons are in
--- Refused, Planned, Trips, ReadOnce and Unplanned. Assumes nothing.
+-- Refused, Planned, Trips, ReadOnce, Unplanned and Rooms. Assumes nothing.
 use mathlib.Core.Bool.{Bool, true}
 use mathlib.Core.List.{List, [], _∷_}
 use mathlib.Core.Logic.{_⊎_}
@@ -13,11 +13,12 @@ use Prim.Native.Nat.{ℕ, suc, _≤_, _<_}
 use contract.Lifetimes.{Lfts}
 use denote.Ref.{RefT, now, ptr}
 use lib.ListN.{length, take}
-use Rattle.boundary.proofs.Unique.{allocate-unique, costs-unique, list-unique, list-with-unique, plan-unique, read-unique, write-unique}
+use Rattle.boundary.proofs.Unique.{allocate-unique, costs-unique, list-unique, list-with-unique, plan-unique, read-unique, rooms-unique, write-unique}
 use Rattle.boundary.specs.Told as boundary
 use Rattle.boundary.specs.declared.CostsAnswer.{CostsAnswer}
 use Rattle.boundary.specs.declared.CyclesAnswer.{CyclesAnswer}
 use Rattle.boundary.specs.declared.PlanAnswer.{PlanAnswer}
+use Rattle.boundary.specs.declared.RoomsAnswer.{RoomsAnswer}
 use Rattle.boundary.specs.declared.TableAnswer.{TableAnswer}
 use Rattle.boundary.specs.declared.TextAnswer.{TextAnswer}
 use Rattle.costs.proofs.Unique as costs
@@ -30,13 +31,15 @@ use Rattle.demands.proofs.Trips.{table-again, text-again}
 use Rattle.demands.proofs.ReadOnce.{cuddlelamb-list-at-own-budget, cuddlelamb-list-refused-at-any-budget, cuddlelamb-plan-as-the-one, cuddlelamb-refused-as-the-one}
 use Rattle.demands.proofs.ReadOnce.{list-at-own-budget, list-refused-at-any-budget, list-with-as-its-own, one-said-room, part-as-its-own}
 use Rattle.demands.proofs.ReadOnce.{plan-as-the-one, plan-into-as-the-one, refused-as-the-one, refused-not-as-the-one, same-as-its-own, told-as-its-own}
+use Rattle.demands.proofs.Rooms.{cuddlelamb-rooms-as-its-own, cuddlelamb-rooms-gives, cuddlelamb-rooms-refuses, rooms-as-its-own, rooms-gives, rooms-refuses}
+use Rattle.demands.proofs.Rooms.{unplanned-do-not-matter-to-cuddlelamb-rooms, unplanned-do-not-matter-to-rooms}
 use Rattle.demands.proofs.Unplanned.{unplanned-do-not-matter-to-cuddlelamb-list, unplanned-do-not-matter-to-cuddlelamb-list-with, unplanned-do-not-matter-to-cuddlelamb-plan}
 use Rattle.demands.proofs.Unplanned.{unplanned-do-not-matter-to-list, unplanned-do-not-matter-to-list-with, unplanned-do-not-matter-to-plan, unplanned-do-not-matter-to-plan-into}
-use Rattle.demands.specs.Plans.{AtFront, HasRoom, PartBy, PlannedBy}
+use Rattle.demands.specs.Plans.{AtFront, HasRoom, PartBy, PlannedBy, RoomsBy}
 use Rattle.demands.specs.ReadOnce.{AsTheOne, LeavesAsTheOne, NotPlanned, OneSaidRoom, OtherThanTheOne}
 use Rattle.demands.specs.Refused.{AllocationRefused, CostsRefused, FirstLineRefused, IsRefusal, ListRefused, NothingLent, PlanRefused, ReadRefused, Refuses, WriteRefused}
 use Rattle.demands.specs.Trips.{SameTable, SameText}
-use Rattle.demands.specs.Unplanned.{BothAgree, NoneInFront, SameListing, SameOutside, SamePart, frontOf}
+use Rattle.demands.specs.Unplanned.{BothAgree, NoneInFront, SameListing, SameOutside, SamePart, SameRooms, frontOf}
 use Rattle.front.proofs.FieldsHeld.{moved-behind-the-letter, moved-refused, moved-to-the-next-field, next-answers-the-field, next-answers-the-letter, next-refused}
 use Rattle.front.proofs.FieldsHeld.{next-refuses-another-kind, next-refuses-without-a-line-feed, take-answers-the-field, take-answers-the-letter, take-refused}
 use Rattle.front.proofs.LinesCounted.{take-counted, walked-lines-counted}
@@ -56,7 +59,7 @@ use Rattle.planner.proofs.Unique as planner
 use Rattle.planner.specs.Promises.{PlannedAs, Together}
 use Rattle.planner.specs.declared.Planned.{Planned}
 use Rattle.reader.proofs.Unique as reader
-use Rattle.rules.specs.Answers.{allocatedSays, decisionSays, fieldSays, good, numberOf, readingSays, refused, suppliedSays, writtenSays}
+use Rattle.rules.specs.Answers.{allocatedSays, decisionSays, fieldSays, good, numberOf, panelSays, readingSays, refused, suppliedSays, writtenSays}
 use Rattle.rules.specs.Costs.{suppliedCosts}
 use Rattle.rules.specs.Cycles.{allocation}
 use Rattle.rules.specs.Listing.{listedWith, listingOf}
@@ -68,6 +71,7 @@ use Rattle.rules.specs.Valid.{Valid, WithinPlaces}
 use Rattle.rules.specs.declared.Allocated.{Allocated}
 use Rattle.rules.specs.declared.Decision.{Decision}
 use Rattle.rules.specs.declared.Field.{Field}
+use Rattle.rules.specs.declared.Panel.{Panel}
 use Rattle.rules.specs.declared.Reading.{Reading}
 use Rattle.rules.specs.declared.Refusal.{Refusal}
 use Rattle.rules.specs.declared.Supplied.{Supplied}
@@ -100,6 +104,12 @@ refused-by-plan = plan-refuses
 pub refused-by-hand-back : (order : List ℕ) (begin : ℕ × ℕ) (why : Refusal) (line : ℕ) (part : List ℕ) (at : ℕ × ℕ)
     → HandedBack order begin (Decision.Refused why line) part at → part ≡ []
 refused-by-hand-back = refused-hands-back-nothing
+
+pub refused-by-rooms : (l : Lfts 2) (table : Table) (budget : ℕ) (turns rooms turns′ rooms′ : RefT (List ℕ)) (r : Panel)
+    → planner.PromisedRooms l table budget turns rooms r turns′ rooms′
+    → Refuses (PlanRefused table budget (turns .now) (rooms .now)) (panelSays r) (0 ∷ 0 ∷ [])
+    ((turns′ .now ≡ turns .now) × (rooms′ .now ≡ rooms .now))
+refused-by-rooms = rooms-refuses
 
 pub refused-by-list : (l : Lfts 2) (text out after : RefT (List ℕ)) (w : Written) → listing.Promised l text out w after
     → Refuses (ListRefused (listingOf (text .now)) (out .now)) (writtenSays w) (0 ∷ []) (after .now ≡ out .now)
@@ -148,12 +158,17 @@ pub refused-by-supplied : (model : ℕ) (r : Supplied) → costs.Promised model 
     → Refuses (CostsRefused model) (suppliedSays r) (0 ∷ 0 ∷ 0 ∷ 0 ∷ 0 ∷ 0 ∷ 0 ∷ []) NothingLent
 refused-by-supplied = supplied-refuses
 
--- the seven calls for C and Rust
+-- the eight calls for C and Rust
 
 pub refused-by-cuddlelamb-plan : (table : Table) (budget : ℕ) (order fates order′ fates′ : List ℕ) (r : PlanAnswer)
     → boundary.PlanTold (takenWith table budget) order fates r order′ fates′
     → Refuses (PlanRefused table budget order fates) (boundary.planSays r) (0 ∷ 0 ∷ 0 ∷ []) ((order′ ≡ order) × (fates′ ≡ fates))
 refused-by-cuddlelamb-plan = cuddlelamb-plan-refuses
+
+pub refused-by-cuddlelamb-rooms : (table : Table) (budget : ℕ) (turns rooms turns′ rooms′ : List ℕ) (r : RoomsAnswer)
+    → boundary.RoomsTold (takenWith table budget) turns rooms r turns′ rooms′
+    → Refuses (PlanRefused table budget turns rooms) (boundary.roomsSays r) (0 ∷ 0 ∷ []) ((turns′ ≡ turns) × (rooms′ ≡ rooms))
+refused-by-cuddlelamb-rooms = cuddlelamb-rooms-refuses
 
 pub refused-by-cuddlelamb-list : (text out after : List ℕ) (r : TextAnswer) → boundary.ListTold text out r after
     → Refuses (ListRefused (listingOf text) out) (boundary.textSays r) (0 ∷ []) (after ≡ out)
@@ -201,6 +216,13 @@ pub every-place-by-the-rules : (l : Lfts 2) (table : Table) (budget : ℕ) (orde
     → HandedBack (order′ .now) begin d part at
     → Together (takenWith table budget) (order .now) (fates .now) begin (order′ .now) part at
 every-place-by-the-rules = plan-into-then-hand-back
+
+-- the panel's call (document 02, A2): "It must equal the answer from all the entries", after each turn and at the end
+pub rooms-by-the-rules : (l : Lfts 2) (table : Table) (budget : ℕ) (turns rooms turns′ rooms′ : RefT (List ℕ)) (r : Panel)
+    (t : Records) → planner.PromisedRooms l table budget turns rooms r turns′ rooms′ → check table ≡ taken t
+    → isBudget budget ≡ true → HasRoom (turns .now) (rooms .now)
+    → RoomsBy (withBudget t budget) (turns .now) (rooms .now) (panelSays r) (turns′ .now) (rooms′ .now)
+rooms-by-the-rules = rooms-gives
 
 pub list-by-the-rules : (l : Lfts 2) (text out after : RefT (List ℕ)) (w : Written) → listing.Promised l text out w after
     → length (listingOf (text .now)) ≤ length (out .now)
@@ -287,12 +309,18 @@ allocate-by-the-rules mean variance assurance r promise = promise
 pub supplied-by-the-rules : (model : ℕ) (r : Supplied) → costs.Promised model r → suppliedSays r ≡ suppliedCosts model
 supplied-by-the-rules model r promise = promise
 
--- the seven calls for C and Rust
+-- the eight calls for C and Rust
 
 pub cuddlelamb-plan-by-the-rules : (table : Table) (budget : ℕ) (order fates order′ fates′ : List ℕ) (r : PlanAnswer) (t : Records)
     → boundary.PlanTold (takenWith table budget) order fates r order′ fates′ → check table ≡ taken t → isBudget budget ≡ true
     → HasRoom order fates → PlannedBy (withBudget t budget) order fates (boundary.planSays r) order′ fates′
 cuddlelamb-plan-by-the-rules = cuddlelamb-plan-gives
+
+pub cuddlelamb-rooms-by-the-rules : (table : Table) (budget : ℕ) (turns rooms turns′ rooms′ : List ℕ) (r : RoomsAnswer)
+    (t : Records) → boundary.RoomsTold (takenWith table budget) turns rooms r turns′ rooms′ → check table ≡ taken t
+    → isBudget budget ≡ true → HasRoom turns rooms
+    → RoomsBy (withBudget t budget) turns rooms (boundary.roomsSays r) turns′ rooms′
+cuddlelamb-rooms-by-the-rules = cuddlelamb-rooms-gives
 
 pub cuddlelamb-list-by-the-rules : (text out after : List ℕ) (r : TextAnswer) → boundary.ListTold text out r after
     → length (listingOf text) ≤ length out → AtFront (listingOf text) out (boundary.textSays r) after
@@ -396,6 +424,18 @@ pub budget-beside-is-planned-with-by-cuddlelamb-plan : (table : Table) (budget :
     → boundary.PlanTold (takenWith (tableWithBudget table budget) budget) order fates s a′ b′ → (r ≡ s) × (a ≡ a′) × (b ≡ b′)
 budget-beside-is-planned-with-by-cuddlelamb-plan = told-as-its-own
 
+pub budget-beside-is-told-with : (table : Table) (budget : ℕ) → isBudget (table .budget) ≡ true → isBudget budget ≡ true
+    → (l l* : Lfts 2) (turns rooms a b a′ b′ : RefT (List ℕ)) (r s : Panel) → planner.PromisedRooms l table budget turns rooms r a b
+    → planner.PromisedRooms l* (tableWithBudget table budget) budget turns rooms s a′ b′
+    → (r ≡ s) × (a .now ≡ a′ .now) × (b .now ≡ b′ .now)
+budget-beside-is-told-with = rooms-as-its-own
+
+pub budget-beside-is-told-with-by-cuddlelamb-rooms : (table : Table) (budget : ℕ) → isBudget (table .budget) ≡ true
+    → isBudget budget ≡ true → (turns rooms a b a′ b′ : List ℕ) (r s : RoomsAnswer)
+    → boundary.RoomsTold (takenWith table budget) turns rooms r a b
+    → boundary.RoomsTold (takenWith (tableWithBudget table budget) budget) turns rooms s a′ b′ → (r ≡ s) × (a ≡ a′) × (b ≡ b′)
+budget-beside-is-told-with-by-cuddlelamb-rooms = cuddlelamb-rooms-as-its-own
+
 pub budget-beside-is-listed-with : (l l* : Lfts 2) (text text* out a b : RefT (List ℕ)) (w v : Written) (t : Records) (budget : ℕ)
     → read (text .now) ≡ taken t → isBudget budget ≡ true → text* .now ≡ textOf (withBudget t budget)
     → listing.Promised l text* out w a → listing.PromisedWith l* text budget out v b → (w ≡ v) × (a .now ≡ b .now)
@@ -443,6 +483,11 @@ pub one-answer-of-hand-back : (order : List ℕ) (begin : ℕ × ℕ) (d : Decis
     → HandedBack order begin d part at → HandedBack order begin d part′ at′ → (part ≡ part′) × (at ≡ at′)
 one-answer-of-hand-back = hand-back-unique
 
+pub one-answer-of-rooms : (l : Lfts 2) (table : Table) (budget : ℕ) (turns rooms a b a′ b′ : RefT (List ℕ)) (r s : Panel)
+    → planner.PromisedRooms l table budget turns rooms r a b → planner.PromisedRooms l table budget turns rooms s a′ b′
+    → (r ≡ s) × (a .now ≡ a′ .now) × (b .now ≡ b′ .now)
+one-answer-of-rooms = planner.unique-rooms
+
 pub one-answer-of-list : (l : Lfts 2) (text out a b : RefT (List ℕ)) (r s : Written) → listing.Promised l text out r a
     → listing.Promised l text out s b → (r ≡ s) × (a .now ≡ b .now)
 one-answer-of-list = listing.unique
@@ -478,12 +523,17 @@ pub one-answer-of-clock-and-budget : (l : Lfts 1) (text : RefT (List ℕ)) (r s 
     → front.Promised l text s → r ≡ s
 one-answer-of-clock-and-budget = front.clock-and-budget-unique
 
--- the seven calls for C and Rust
+-- the eight calls for C and Rust
 
 pub one-answer-of-cuddlelamb-plan : (table : Table) (budget : ℕ) (order fates : List ℕ) (r s : PlanAnswer) (a b a′ b′ : List ℕ)
     → boundary.PlanTold (takenWith table budget) order fates r a b → boundary.PlanTold (takenWith table budget) order fates s a′ b′
     → (r ≡ s) × (a ≡ a′) × (b ≡ b′)
 one-answer-of-cuddlelamb-plan = plan-unique
+
+pub one-answer-of-cuddlelamb-rooms : (table : Table) (budget : ℕ) (turns rooms : List ℕ) (r s : RoomsAnswer) (a b a′ b′ : List ℕ)
+    → boundary.RoomsTold (takenWith table budget) turns rooms r a b → boundary.RoomsTold (takenWith table budget) turns rooms s a′ b′
+    → (r ≡ s) × (a ≡ a′) × (b ≡ b′)
+one-answer-of-cuddlelamb-rooms = rooms-unique
 
 pub one-answer-of-cuddlelamb-list : (text out : List ℕ) (r s : TextAnswer) (a b : List ℕ) → boundary.ListTold text out r a
     → boundary.ListTold text out s b → (r ≡ s) × (a ≡ b)
@@ -539,6 +589,29 @@ pub unplanned-jobs-do-not-matter-to-cuddlelamb-plan : (set : ℕ → Bool) (tabl
     → NoneInFront set (frontOf (boundary.planSays r) order′) → NoneInFront set (frontOf (boundary.planSays s) order*′)
     → SameOutside (outOf set) a b (boundary.planSays r) (boundary.planSays s) order′ order*′ fates′ fates*′
 unplanned-jobs-do-not-matter-to-cuddlelamb-plan = unplanned-do-not-matter-to-cuddlelamb-plan
+
+-- The panel's calls tell each table's own rows: those of the jobs outside are the same in both, and so is the room at the end.
+
+pub unplanned-jobs-do-not-matter-to-rooms : (set : ℕ → Bool) (table table* : Table) (budget : ℕ) (a b : Records)
+    → BothAgree set (check table) (check table*) a b → isBudget budget ≡ true
+    → NonePlanned set (withBudget a budget) → NonePlanned set (withBudget b budget) → (l l* : Lfts 2)
+    (turns rooms turns* rooms* turns′ rooms′ turns*′ rooms*′ : RefT (List ℕ)) (r s : Panel)
+    → planner.PromisedRooms l table budget turns rooms r turns′ rooms′
+    → planner.PromisedRooms l* table* budget turns* rooms* s turns*′ rooms*′
+    → HasRoom (turns .now) (rooms .now) → HasRoom (turns* .now) (rooms* .now)
+    → SameRooms (outOf set) (withBudget a budget) (withBudget b budget) (turns .now) (rooms .now) (turns* .now) (rooms* .now)
+    (panelSays r) (panelSays s) (turns′ .now) (rooms′ .now) (turns*′ .now) (rooms*′ .now)
+unplanned-jobs-do-not-matter-to-rooms = unplanned-do-not-matter-to-rooms
+
+pub unplanned-jobs-do-not-matter-to-cuddlelamb-rooms : (set : ℕ → Bool) (table table* : Table) (budget : ℕ) (a b : Records)
+    → BothAgree set (check table) (check table*) a b → isBudget budget ≡ true
+    → NonePlanned set (withBudget a budget) → NonePlanned set (withBudget b budget)
+    → (turns rooms turns* rooms* turns′ rooms′ turns*′ rooms*′ : List ℕ) (r s : RoomsAnswer)
+    → boundary.RoomsTold (takenWith table budget) turns rooms r turns′ rooms′
+    → boundary.RoomsTold (takenWith table* budget) turns* rooms* s turns*′ rooms*′ → HasRoom turns rooms → HasRoom turns* rooms*
+    → SameRooms (outOf set) (withBudget a budget) (withBudget b budget) turns rooms turns* rooms*
+    (boundary.roomsSays r) (boundary.roomsSays s) turns′ rooms′ turns*′ rooms*′
+unplanned-jobs-do-not-matter-to-cuddlelamb-rooms = unplanned-do-not-matter-to-cuddlelamb-rooms
 
 -- The listings, at the fronts of their buffers: the P line and the O lines are the same bytes, and so are the X lines of the jobs
 -- outside. Without a budget beside them the texts agree in their own.

@@ -3,5 +3,6 @@ mod RulesRefuse
 mod Refused
 mod Planned
 mod Unplanned
+mod Rooms
 mod ReadOnce
 mod Demands

@@ -43,7 +43,7 @@ use Rattle.writer.proofs.Unique as writer
 planning-taken : (k : Taken) (order fates : List ℕ) (t : Records) → k ≡ taken t → HasRoom order fates
     → planningOf k order fates ≡ leavesPlan (planOf t) order fates
 unfolding planningOfUpTo leavesOf
-planning-taken k order fates t e large = rw (room order (large .order-room)) (rw (room fates (large .fate-room)) (rw e))
+planning-taken k order fates t e large = rw (room order (large .first-room)) (rw (room fates (large .second-room)) (rw e))
 
 planned-by : (k : Taken) (order fates : List ℕ) (t : Records) → k ≡ taken t → HasRoom order fates
     → (says : Answer) (order′ fates′ : List ℕ) → says ≡ planningOf k order fates .answer

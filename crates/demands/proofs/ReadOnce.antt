@@ -69,7 +69,7 @@ module _ (text : List ℕ) where
     unfolding planningOfUpTo leavesOf leavesAll
     not-planned why line e large =
         left-as-one (leavesAll why line order fates)
-        (rw (room order (large .order-room)) (rw (room fates (large .fate-room)) (rw e)))
+        (rw (room order (large .first-room)) (rw (room fates (large .second-room)) (rw e)))
 
     -- where a buffer is short, whatever the text
     pub one-said-room : (length order < mostJobs) ⊎ (length fates < mostJobs) → OneSaidRoom text order fates

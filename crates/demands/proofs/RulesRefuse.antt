@@ -10,7 +10,7 @@ use lib.Dec.{leb}
 use lib.ListN.{length}
 use Rattle.demands.specs.Plans.{HasRoom}
 use Rattle.demands.specs.Refused.{AllocationRefused, CostsRefused, FirstLineRefused, IsRefusal, ListRefused, NothingLent, PlanRefused, ReadRefused, Refuses, WriteRefused}
-use Rattle.demands.specs.Refused.{bad-budget, bad-first-line, bad-record, bad-table, bad-text, fates-too-small, listing-too-long, none-enough, order-too-small, other-model, out-of-range, text-too-long}
+use Rattle.demands.specs.Refused.{bad-budget, bad-first-line, bad-record, bad-table, bad-text, first-too-small, listing-too-long, none-enough, other-model, out-of-range, second-too-small, text-too-long}
 use Rattle.front.proofs.WholeText.{refused-at-line-one}
 use Rattle.front.specs.ClockLine.{firstLine, firstOf, lineOneSays}
 use Rattle.laws.proofs.Allocation.{refused-outside, refused-where-none-enough}
@@ -18,7 +18,7 @@ use Rattle.laws.proofs.Choices.{split, split-option}
 use Rattle.laws.proofs.Tests.{within-above}
 use Rattle.grammar.proofs.BudgetBeside.{budget-refused, table-refused, taken-with}
 use Rattle.grammar.proofs.Trips.{check-exactly}
-use Rattle.planner.proofs.Decisions.{either-true, room, too-small}
+use Rattle.planner.proofs.Decisions.{either-true, room, roomFirst, too-small}
 use Rattle.rules.specs.Answers.{Answer, ReadAnswer, refused}
 use Rattle.rules.specs.Costs.{suppliedCosts}
 use Rattle.rules.specs.Cycles.{allocated, allocation, askedInRange, enough, leastFrom}
@@ -26,7 +26,8 @@ use Rattle.rules.specs.Lists.{within}
 use Rattle.rules.specs.Listing.{listedWith, listing, listingOf, listingWith}
 use Rattle.rules.specs.Plan.{AfterPlanning, leavesAll, leavesOf, leavesPlan, partOf, planningOfUpTo, planningWith, takenWith, tooSmall, tooSmallUpTo}
 use Rattle.rules.specs.Refusals.{AfterWriting, Item, Judged, Taken, accept, accepted, check, itemsIn, nothing, read, reading, readingUpTo, refusedAt, refusedFor, refusedOut, tableAnswer, tableAnswerUpTo, taken, writing, written, writtenOf}
-use Rattle.rules.specs.TableText.{isBudget, linesOf, mostCycles, mostJobs, noRecords, recordsOf, tableOf, textOf}
+use Rattle.rules.specs.Rooms.{AfterRooms, leavesRooms, leavesRoomsOf, leavesUntold, panelOfUpTo, panelWith}
+use Rattle.rules.specs.TableText.{Records, isBudget, linesOf, mostCycles, mostJobs, noRecords, recordsOf, tableOf, textOf, withBudget}
 use Rattle.rules.specs.declared.Refusal.{Refusal}
 use Rattle.rules.specs.declared.Table.{Table}
 
@@ -67,52 +68,72 @@ large-buffer : (buffer : List ℕ) → tooSmall buffer ≡ false → mostJobs �
 unfolding tooSmallUpTo
 large-buffer buffer h = ltb-false (length buffer) mostJobs h
 
-module _ (table : Table) (budget : ℕ) (order fates : List ℕ) where
-  abbrev all : AfterPlanning
-  all = planningWith table budget order fates
+-- a call that plans a table, whatever it tells of the plan: room first, then what was taken
+module _ {A : Type 0} (answers : Taken → A) (refusing : Refusal → ℕ → A)
+    (refused-so : (why : Refusal) (line : ℕ) → answers (refusedAt why line) ≡ refusing why line) (answer : A → Answer)
+    (good-so : (t : Records) → answer (answers (taken t)) .number ≡ 0) (table : Table) (budget : ℕ) (first second : List ℕ) where
+  abbrev all : A
+  all = roomFirst answers refusing refused-so table budget first second
 
-  refused-with-room : (why : Refusal) (line : ℕ) → HasRoom order fates → takenWith table budget ≡ refusedAt why line
-      → all ≡ leavesAll why line order fates
-  unfolding planningOfUpTo leavesOf
-  refused-with-room why line large e = rw (room order (large .order-room)) (rw (room fates (large .fate-room)) (rw e))
+  with-room : HasRoom first second → all ≡ answers (takenWith table budget)
+  with-room large = rw (room first (large .first-room)) (rw (room second (large .second-room)))
 
-  left-refused : (why : Refusal) (line : ℕ) → PlanRefused table budget order fates why line
-      → all ≡ leavesAll why line order fates
-  unfolding planningOfUpTo
-  left-refused why line (order-too-small h) = rw (too-small order h)
-  left-refused why line (fates-too-small h) = rw (too-small fates h) (rw (either-true (tooSmall order)))
+  refused-with-room : (why : Refusal) (line : ℕ) → HasRoom first second → takenWith table budget ≡ refusedAt why line
+      → all ≡ refusing why line
+  refused-with-room why line large e = with-room large ∙ ap answers e ∙ refused-so why line
+
+  left-refused : (why : Refusal) (line : ℕ) → PlanRefused table budget first second why line → all ≡ refusing why line
+  left-refused why line (first-too-small h) = rw (too-small first h)
+  left-refused why line (second-too-small h) = rw (too-small second h) (rw (either-true (tooSmall first)))
   left-refused why line (bad-budget large h) = refused-with-room why line large (budget-refused table budget h)
   left-refused why line (bad-table large h e) = refused-with-room why line large (table-refused table budget why line h e)
 
   -- with room, only the budget or the table is refused
-  table-only : HasRoom order fates → isBudget budget ≡ true → (k : Taken) → check table ≡ k
-      → IsRefusal (leavesOf (takenWith table budget) order fates .answer) → SomeRefusal (PlanRefused table budget order fates)
-  unfolding leavesOf leavesPlan
-  table-only large h (taken t) e r = absurd (rw (taken-with table budget t h e) at r refl)
+  table-only : HasRoom first second → isBudget budget ≡ true → (k : Taken) → check table ≡ k
+      → IsRefusal (answer (answers (takenWith table budget))) → SomeRefusal (PlanRefused table budget first second)
+  table-only large h (taken t) e r = absurd (rw (taken-with table budget t h e) at r (good-so (withBudget t budget)))
   table-only large h (refusedAt why line) e r = (why, line, bad-table large h e)
 
-  taken-only : HasRoom order fates → IsRefusal (leavesOf (takenWith table budget) order fates .answer)
-      → SomeRefusal (PlanRefused table budget order fates)
+  taken-only : HasRoom first second → IsRefusal (answer (answers (takenWith table budget)))
+      → SomeRefusal (PlanRefused table budget first second)
   taken-only large r =
       split (isBudget budget) (λ h. table-only large h (check table) refl r) (λ h. (Refusal.Range, 1, bad-budget large h))
 
-  refused-only : IsRefusal (all .answer) → SomeRefusal (PlanRefused table budget order fates)
-  unfolding planningOfUpTo
+  refused-only : IsRefusal (answer all) → SomeRefusal (PlanRefused table budget first second)
   refused-only r =
-      split (tooSmall order)
-      (λ h. (Refusal.Room, 0, order-too-small (small-buffer order h)))
-      (λ h. split (tooSmall fates)
-      (λ g. (Refusal.Room, 0, fates-too-small (small-buffer fates g)))
-      (λ g. taken-only (record { order-room = large-buffer order h; fate-room = large-buffer fates g })
+      split (tooSmall first)
+      (λ h. (Refusal.Room, 0, first-too-small (small-buffer first h)))
+      (λ h. split (tooSmall second)
+      (λ g. (Refusal.Room, 0, second-too-small (small-buffer second g)))
+      (λ g. taken-only (record { first-room = large-buffer first h; second-room = large-buffer second g })
       (rw g at (rw h at r))))
 
-  pub planning-refuses : Refuses (PlanRefused table budget order fates) (all .answer) (0 ∷ 0 ∷ 0 ∷ [])
-      ((all .order ≡ order) × (all .fates ≡ fates) × (partOf all ≡ []))
-  unfolding leavesAll partOf
-  planning-refuses =
-      refuses-by (λ (a : AfterPlanning). a .answer) all (λ why line. leavesAll why line order fates)
-      (λ why line. refl) left-refused refused-only
-      (λ why line e. (ap (λ (a : AfterPlanning). a .order) e, ap (λ (a : AfterPlanning). a .fates) e, ap partOf e))
+  planned-refuses : {values : List ℕ} {Held : Type 0}
+      → ((why : Refusal) (line : ℕ) → answer (refusing why line) ≡ refused why line values)
+      → ((why : Refusal) (line : ℕ) → all ≡ refusing why line → Held)
+      → Refuses (PlanRefused table budget first second) (answer all) values Held
+  planned-refuses says held = refuses-by answer all refusing says left-refused refused-only held
+
+pub planning-refuses : (table : Table) (budget : ℕ) (order fates : List ℕ)
+    → let all = planningWith table budget order fates in
+    Refuses (PlanRefused table budget order fates) (all .answer) (0 ∷ 0 ∷ 0 ∷ [])
+    ((all .order ≡ order) × (all .fates ≡ fates) × (partOf all ≡ []))
+unfolding planningOfUpTo leavesOf leavesPlan leavesAll partOf
+planning-refuses table budget order fates =
+    planned-refuses (λ k. leavesOf k order fates) (λ why line. leavesAll why line order fates) (λ why line. refl)
+    (λ (a : AfterPlanning). a .answer) (λ t. refl) table budget order fates (λ why line. refl)
+    (λ why line e. (ap (λ (a : AfterPlanning). a .order) e, ap (λ (a : AfterPlanning). a .fates) e, ap partOf e))
+
+-- the rooms
+
+pub panel-refuses : (table : Table) (budget : ℕ) (turns rooms : List ℕ)
+    → let all = panelWith table budget turns rooms in
+    Refuses (PlanRefused table budget turns rooms) (all .answer) (0 ∷ 0 ∷ []) ((all .turns ≡ turns) × (all .rooms ≡ rooms))
+unfolding panelOfUpTo leavesRoomsOf leavesRooms leavesUntold
+panel-refuses table budget turns rooms =
+    planned-refuses (λ k. leavesRoomsOf k turns rooms) (λ why line. leavesUntold why line turns rooms) (λ why line. refl)
+    (λ (a : AfterRooms). a .answer) (λ t. refl) table budget turns rooms (λ why line. refl)
+    (λ why line e. (ap (λ (a : AfterRooms). a .turns) e, ap (λ (a : AfterRooms). a .rooms) e))
 
 -- texts that are written
 

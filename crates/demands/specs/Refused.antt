@@ -33,13 +33,13 @@ abbrev pub NothingLent : Type 0
 NothingLent = Unit
 
 -- "an order buffer or a fate buffer of fewer than 64 places is refused 8 with line 0"; "2 for the budget, line 1, after 8 and before
--- the table's own"; the table "as the writer" checks it, with the writer's lines
-pub data PlanRefused (table : Table) (budget : ℕ) (order fates : List ℕ) : Refusal → ℕ → Type 0 where
-  order-too-small : length order < mostJobs → PlanRefused table budget order fates Refusal.Room 0
-  fates-too-small : length fates < mostJobs → PlanRefused table budget order fates Refusal.Room 0
-  bad-budget : HasRoom order fates → isBudget budget ≡ false → PlanRefused table budget order fates Refusal.Range 1
-  bad-table : {why : Refusal} {line : ℕ} → HasRoom order fates → isBudget budget ≡ true → check table ≡ refusedAt why line
-      → PlanRefused table budget order fates why line
+-- the table's own"; the table "as the writer" checks it, with the writer's lines. The panel's call refuses the same, of its own two buffers.
+pub data PlanRefused (table : Table) (budget : ℕ) (first second : List ℕ) : Refusal → ℕ → Type 0 where
+  first-too-small : length first < mostJobs → PlanRefused table budget first second Refusal.Room 0
+  second-too-small : length second < mostJobs → PlanRefused table budget first second Refusal.Room 0
+  bad-budget : HasRoom first second → isBudget budget ≡ false → PlanRefused table budget first second Refusal.Range 1
+  bad-table : {why : Refusal} {line : ℕ} → HasRoom first second → isBudget budget ≡ true → check table ≡ refusedAt why line
+      → PlanRefused table budget first second why line
 
 -- 8: the listing is longer than the lent buffer. A refused text, or a budget beside it that is refused, is a success: its R line.
 pub data ListRefused (listing out : List ℕ) : Refusal → ℕ → Type 0 where

@@ -4,7 +4,9 @@ use mathlib.Core.List.{List, _++_}
 use mathlib.Core.Path.{_≡_}
 use Prim.Native.Nat.{ℕ, _<_}
 use lib.ListN.{getD, length, take}
+use Rattle.demands.specs.Plans.{RoomsBy}
 use Rattle.theorems.specs.Demand3.{Agree, NoneAsksInside, outOf, outerFated}
+use Rattle.theorems.specs.Rooms.{RoomsAlike}
 use Rattle.rules.specs.Answers.{Answer}
 use Rattle.rules.specs.Listing.{fateLine, orderLine, planLine, unplanned}
 use Rattle.rules.specs.Lists.{Each, joined, keep}
@@ -51,6 +53,13 @@ pub record SamePart (out : ℕ → Bool) (a b : Records) (says says* : Answer) (
   pub answer : says ≡ says*
   pub plan : part ≡ part*
   pub fate : SameFates out a b fates fates*
+
+-- the same, of the rooms: each call tells its table's rows, the rows of the jobs outside are the same in both, and so is the last room
+pub record SameRooms (out : ℕ → Bool) (a b : Records) (turns rooms turns* rooms* : List ℕ) (says says* : Answer)
+    (turns′ rooms′ turns*′ rooms*′ : List ℕ) : Type 0 where
+  pub first : RoomsBy a turns rooms says turns′ rooms′
+  pub second : RoomsBy b turns* rooms* says* turns*′ rooms*′
+  pub alike : RoomsAlike out a b
 
 -- the O lines of a table's listing
 abbrev pub orderLines : Records → List ℕ

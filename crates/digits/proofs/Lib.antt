@@ -1,3 +1,5 @@
 mod Left
-pub mod Rows
 pub mod PutSoFar
+pub mod LinesOfRows
+mod TabLine
+pub mod Rows

@@ -2,8 +2,9 @@
 ghost use mathlib.Core.Path.{_≡_};
 ghost use Prim.Native.Nat.{ℕ, _+_, _≤_};
 ghost use lib.ListN.{length};
-ghost use Rattle.digits.specs.Rows.{mostNumbers, rowLines};
+ghost use Rattle.digits.specs.Rows.{mostNumbers, rowLines, tabRows};
 ghost use Rattle.grammar.specs.Put.{put};
+ghost use Rattle.rules.specs.Rooms.{tabLine};
 ghost use Rattle.rules.specs.TableText.{digitsOf, lineText};
 
 // How many digits a number has, counted two at a time: each line is counted before it is written.
@@ -110,6 +111,46 @@ pub fn put_rows(out: &mut [u8], at: usize, letter: u8, numbers: &[u64], fields: 
         let end = written + fields;
         next = put_line(out, next, letter, &numbers[written..end]);
         written = end;
+    }
+    next
+}
+
+// Writes a tab line at a place, and hands back the place behind it: the digits of its first number, then a line of the others,
+// which has the last of these digits, where it stands, for its letter.
+fn put_tab_line(out: &mut [u8], at: usize, numbers: &[u64]) -> usize
+    requires { ⌜ (1 ≤ length (now numbers)) × (at + length (tabLine (now numbers)) ≤ length (now out)) ⌝ }
+    ensures { λ r. ⌜
+        (r ≡ at + length (tabLine (now (numbers .entry))))
+        × (now (out .exit) ≡ put (now (out .entry)) at (tabLine (now (numbers .entry))))
+        ⌝ }
+{
+    let last = put_number(out, at, numbers[0]) - 1;
+    let digit = out[last];
+    put_line(out, last, digit, &numbers[1..])
+}
+
+// How many bytes the tab lines of these numbers have, so many numbers to a line. A line of a letter has that letter and a tab more.
+pub fn tab_rows_length(numbers: &[u64], fields: usize) -> usize
+    requires { ⌜ (1 ≤ fields) × (length (now numbers) ≤ mostNumbers) ⌝ }
+    ensures { λ r. ⌜ r ≡ length (tabRows fields (now (numbers .entry))) ⌝ }
+{
+    rows_length(numbers, fields) - 2 * (numbers.len() / fields)
+}
+
+// Writes tab lines at a place, so many numbers to a line, and hands back the place behind them.
+pub fn put_tab_rows(out: &mut [u8], at: usize, numbers: &[u64], fields: usize) -> usize
+    requires { ⌜ (1 ≤ fields) × (at + length (tabRows fields (now numbers)) ≤ length (now out)) ⌝ }
+    ensures { λ r. ⌜
+        (r ≡ at + length (tabRows fields (now (numbers .entry))))
+        × (now (out .exit) ≡ put (now (out .entry)) at (tabRows fields (now (numbers .entry))))
+        ⌝ }
+{
+    let mut next = at;
+    let mut first = 0;
+    while fields <= numbers.len() - first {
+        let end = first + fields;
+        next = put_tab_line(out, next, &numbers[first..end]);
+        first = end;
     }
     next
 }

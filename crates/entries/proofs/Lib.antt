@@ -1,4 +1,5 @@
 pub mod Searches
+pub mod Sums
 pub mod Moved
 pub mod Entries
 pub mod Found

@@ -1,9 +1,9 @@
-// Functions that fill lent buffers and slices: with the front of another, with job numbers, with fates, with 0.
+// Functions that fill lent buffers and slices: with the front of another, with job numbers, with fates, with 0, or at one place.
 use rules::MOST_JOBS;
 ghost use mathlib.Core.List.{map};
 ghost use mathlib.Core.Path.{_≡_};
 ghost use Prim.Native.Nat.{_≤_};
-ghost use lib.ListN.{getD, length, replicate};
+ghost use lib.ListN.{getD, length, replicate, set, take};
 ghost use Rattle.columns.specs.Columns.{AllBelow};
 ghost use Rattle.laws.specs.Overwritten.{overwritten};
 ghost use Rattle.rules.specs.TableText.{mostJobs, padded};
@@ -20,6 +20,16 @@ pub fn copy_front(to: &mut [u64], from: &[u64], count: usize)
     }
 }
 
+// A number stored at a place, where there is that place.
+pub fn note(part: &mut [u64], at: usize, number: u64)
+    ensures { λ _. ⌜ now (part .exit) ≡ set (now (part .entry)) at number ⌝ }
+{
+    if part.len() <= at {
+        return;
+    }
+    part[at] = number;
+}
+
 // "places after it hold 0"
 fn clear(part: &mut [u64])
     ensures { λ _. ⌜ now (part .exit) ≡ replicate (length (now (part .entry))) 0 ⌝ }
@@ -29,6 +39,14 @@ fn clear(part: &mut [u64])
         part[i] = 0;
         i += 1;
     }
+}
+
+// The same behind the first `count` places, which stay.
+pub fn clear_behind(out: &mut [u64], count: usize)
+    requires { ⌜ count ≤ length (now out) ⌝ }
+    ensures { λ _. ⌜ now (out .exit) ≡ padded (length (now (out .entry))) 0 (take count (now (out .entry))) ⌝ }
+{
+    clear(&mut out[count..]);
 }
 
 // The numbers of the jobs at these places.

@@ -7,10 +7,11 @@ use Prim.Native.Nat.{ℕ, zero, suc}
 use native.Mathlib.Omega.{arith}
 use lib.ListN.{getD, getElem?}
 use Rattle.rules.specs.Answers.{Answer, allocatedSays, decisionSays, fieldSays, numberOf}
-use Rattle.rules.specs.Answers.{readingSays, suppliedSays, verdictSays, writtenSays}
+use Rattle.rules.specs.Answers.{panelSays, readingSays, suppliedSays, verdictSays, writtenSays}
 use Rattle.rules.specs.declared.Allocated.{Allocated}
 use Rattle.rules.specs.declared.Decision.{Decision}
 use Rattle.rules.specs.declared.Field.{Field}
+use Rattle.rules.specs.declared.Panel.{Panel}
 use Rattle.rules.specs.declared.Reading.{Reading}
 use Rattle.rules.specs.declared.Refusal.{Refusal}
 use Rattle.rules.specs.declared.Supplied.{Supplied}
@@ -78,6 +79,11 @@ decision-unique =
     known-by decisionSays
     (made (λ values. Decision.Plan (getD values 0 0) (getD values 1 0) (getD values 2 0)) Decision.Refused)
     (elim [ Decision.Plan count speed energy ↦ refl | Decision.Refused r line ↦ rw (refusal-again r) ])
+
+pub panel-unique : (a b : Panel) → panelSays a ≡ panelSays b → a ≡ b
+panel-unique =
+    known-by panelSays (made (λ values. Panel.Told (getD values 0 0) (getD values 1 0)) Panel.Refused)
+    (elim [ Panel.Told turns room ↦ refl | Panel.Refused r line ↦ rw (refusal-again r) ])
 
 abbrev verdictOf : Answer → Verdict
 verdictOf = made (λ values. Verdict.Done) Verdict.Refused

@@ -3,6 +3,6 @@ mod Orders
 mod Unplanned
 mod PlanTexts
 pub mod LongestListing
-mod Listed
-mod ReadTables
+pub mod Listed
+pub mod ReadTables
 pub mod Unique

@@ -327,7 +327,7 @@ longest-with-budget text budget = go (read text) refl
 
 -- A table whose listing has as many: its last four jobs have one cycle each, which take up the last millisecond there is, and the
 -- others share the cycles that they may have, or that the budget leaves them.
-abbrev row : (ℕ → Job) → ℕ → ℕ → List Job
+abbrev pub row : (ℕ → Job) → ℕ → ℕ → List Job
 row f n zero = []
 row f n (suc count) = f n ∷ row f (n + 1) count
 

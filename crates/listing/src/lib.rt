@@ -171,6 +171,8 @@ fn list_plan(table: Table, budget: u64, out: &mut [u8]) -> Written
     let columns = columns_of(table);
     let speeds = table.speeds;
     let holds = table.holds;
+    let mut no_order = [0; 0];
+    let mut no_rooms = [0; 0];
     let decided = decide(
         table.clock,
         budget,
@@ -180,6 +182,8 @@ fn list_plan(table: Table, budget: u64, out: &mut [u8]) -> Written
         table.hold_count,
         table.job_count,
         columns,
+        &mut no_order,
+        &mut no_rooms,
     );
     let places = decided.places;
     let fates = decided.fates;

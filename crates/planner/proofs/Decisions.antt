@@ -1,16 +1,22 @@
--- The ways of `plan_into`: a buffer too small, a refusal, records planned. Each is the rules'. Assumes nothing.
-use mathlib.Core.Bool.{Bool, true, false, _||_}
-use mathlib.Core.List.{List}
+-- The ways of a call that plans a table: something is refused before the table is looked at, its check refuses, or it is planned.
+-- Each is the rules', whatever is told of a plan. Assumes nothing.
+use mathlib.Core.Bool.{Bool, true, false, cond, _||_}
+use mathlib.Core.List.{List, []}
 use mathlib.Core.Path.{_≡_, refl, sym, ap, _∙_}
 use Prim.Native.Nat.{ℕ, _≤_, _<_}
 use borrow.Author.Tests.{le-ltb, lt-ltb}
 use lib.ListN.{length}
-use Rattle.plans.specs.Promises.{leaves}
-use Rattle.rules.specs.Plan.{leavesAll, leavesOf, leavesPlan, planOf, planningOfUpTo, tooSmall, tooSmallUpTo, planningOf}
-use Rattle.rules.specs.Refusals.{refusedAt, taken, Taken}
-use Rattle.rules.specs.TableText.{Records, mostJobs}
-use Rattle.rules.specs.declared.Decision.{Decision}
+use Rattle.grammar.proofs.BudgetBeside.{budget-refused, table-refused, taken-with, valid-at}
+use Rattle.grammar.proofs.Trips.{check-exactly}
+use Rattle.planner.specs.Promises.{BeforeTable, RefusedBefore, bad-budget, first-too-small, second-too-small}
+use Rattle.plans.specs.Promises.{Plannable}
+use Rattle.rules.specs.Answers.{verdictSays}
+use Rattle.rules.specs.Plan.{takenWith, tooSmall, tooSmallUpTo}
+use Rattle.rules.specs.Refusals.{Taken, check, refusedAt, taken}
+use Rattle.rules.specs.TableText.{isBudget, mostJobs, recordsOf, withBudget}
 use Rattle.rules.specs.declared.Refusal.{Refusal}
+use Rattle.rules.specs.declared.Table.{Table}
+use Rattle.rules.specs.declared.Verdict.{Verdict}
 
 pub either-true : (b : Bool) → b || true ≡ true
 either-true true = refl
@@ -24,28 +30,46 @@ pub room : (buffer : List ℕ) → mostJobs ≤ length buffer → tooSmall buffe
 unfolding tooSmallUpTo
 room buffer h = le-ltb (length buffer) mostJobs h
 
-module _ (k : Taken) (order fates : List ℕ) where
-  pub no-order-room : tooSmall order ≡ true
-      → leaves (Decision.Refused Refusal.Room 0) order fates ≡ planningOf k order fates
-  unfolding planningOfUpTo leavesAll
-  no-order-room h = rw h
+-- verdicts that are one
+pub before-as : (first second budget : ℕ) {v w : Verdict} → v ≡ w → BeforeTable first second budget v → BeforeTable first second budget w
+before-as first second budget e asked = rw (sym e) asked
 
-  pub no-fate-room : tooSmall fates ≡ true
-      → leaves (Decision.Refused Refusal.Room 0) order fates ≡ planningOf k order fates
-  unfolding planningOfUpTo leavesAll
-  no-fate-room h = rw h (rw (either-true (tooSmall order)))
+pub says : {v w : Verdict} → v ≡ w → verdictSays v [] ≡ verdictSays w []
+says e = ap (λ (v : Verdict). verdictSays v []) e
 
-  module _ (order-room : tooSmall order ≡ false) (fate-room : tooSmall fates ≡ false) where
-    with-room : planningOf k order fates ≡ leavesOf k order fates
-    unfolding planningOfUpTo
-    with-room = rw order-room (rw fate-room)
+-- a table whose check is done is valid, and so it is with any budget in range
+pub plannable : (table : Table) (budget : ℕ) → isBudget budget ≡ true → check table ≡ taken (recordsOf table) → Plannable table budget
+plannable table budget h e =
+    let (valid, same, fits) = check-exactly table (recordsOf table) .0 e in
+    record {
+      valid = valid-at valid budget h;
+      few-speeds = fits .speeds-fit;
+      few-jobs = fits .jobs-fit;
+      few-holds = fits .holds-fit;
+    }
 
-    pub taken-refused : (why : Refusal) (line : ℕ) → k ≡ refusedAt why line
-        → leaves (Decision.Refused why line) order fates ≡ planningOf k order fates
-    unfolding leavesOf leavesAll
-    taken-refused why line e = sym (with-room ∙ ap (λ taken. leavesOf taken order fates) e)
+-- what is answered of what was taken, and where it is refused
+module _ {A : Type 0} (answers : Taken → A) (refusing : Refusal → ℕ → A)
+    (refused-so : (why : Refusal) (line : ℕ) → answers (refusedAt why line) ≡ refusing why line) (table : Table) (budget : ℕ)
+    (first second : List ℕ) where
+  -- room comes first
+  abbrev pub roomFirst : A
+  roomFirst = cond (tooSmall first || tooSmall second) (refusing Refusal.Room 0) (answers (takenWith table budget))
 
-    pub taken-planned : (t : Records) (d : Decision) (order' fates' : List ℕ) → k ≡ taken t
-        → leaves d order' fates' ≡ leavesPlan (planOf t) order fates → leaves d order' fates' ≡ planningOf k order fates
-    unfolding leavesOf
-    taken-planned t d order' fates' e q = q ∙ sym (with-room ∙ ap (λ taken. leavesOf taken order fates) e)
+  with-room : mostJobs ≤ length first → mostJobs ≤ length second → roomFirst ≡ answers (takenWith table budget)
+  with-room f s = rw (room first f) (rw (room second s))
+
+  pub refused-before : {why : Refusal} {line : ℕ} → RefusedBefore (length first) (length second) budget why line
+      → refusing why line ≡ roomFirst
+  refused-before (first-too-small h) = rw (too-small first h)
+  refused-before (second-too-small h) = rw (too-small second h) (rw (either-true (tooSmall first)))
+  refused-before (bad-budget f s h) =
+      sym (with-room f s ∙ ap answers (budget-refused table budget h) ∙ refused-so Refusal.Range 1)
+
+  module _ (asked : BeforeTable (length first) (length second) budget Verdict.Done) where
+    pub refused-table : (why : Refusal) (line : ℕ) → check table ≡ refusedAt why line → refusing why line ≡ roomFirst
+    refused-table why line e =
+        sym (with-room (asked .0) (asked .1) ∙ ap answers (table-refused table budget why line (asked .2) e) ∙ refused-so why line)
+
+    pub answered : check table ≡ taken (recordsOf table) → answers (taken (withBudget (recordsOf table) budget)) ≡ roomFirst
+    answered e = sym (with-room (asked .0) (asked .1) ∙ ap answers (taken-with table budget (recordsOf table) (asked .2) e))

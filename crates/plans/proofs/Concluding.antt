@@ -8,12 +8,13 @@ use native.Mathlib.Omega.{arith}
 use lib.ListN.{getD, take}
 use Rattle.columns.specs.Columns.{jobsAt}
 use Rattle.columns.specs.declared.Terms.{Terms}
+use Rattle.entries.proofs.Sums.{cycles-of-jobs}
 use Rattle.plans.proofs.Courses.{fates-at-end}
 use Rattle.plans.specs.Courses.{jobAt}
-use Rattle.plans.specs.Promises.{Concluded, Marked, PlacesOfJobs}
+use Rattle.plans.specs.Promises.{Concluded, Marked, PlacesOfJobs, Totalled}
 use Rattle.plans.specs.declared.CourseTaken.{CourseTaken}
 use Rattle.plans.specs.declared.Decided.{Decided}
-use Rattle.rules.specs.Plan.{courseOf, energyAt, fatePlanned, inPlan, planFrom, planOf, speedFor, runOrder}
+use Rattle.rules.specs.Plan.{courseOf, cyclesOf, energyAt, fatePlanned, inPlan, planFrom, planOf, speedFor, runOrder}
 use Rattle.rules.specs.TableText.{Records}
 use Rattle.rules.specs.declared.Job.{Job}
 use Rattle.rules.specs.declared.Speed.{Speed}
@@ -46,12 +47,15 @@ module _ (speeds : List Speed) (speed-count : ℕ) (cycles termination : List �
     fates = fates;
     speed = chosen .speed;
     energy = chosen .energy;
+    turns = course .turns;
+    cycles = course .totals .cycles;
   }
 
   pub steps-8-and-9 : PlacesOfJobs (course .totals .count) (course .places)
+      → Totalled (course .totals) (course .places) cycles terms
       → ChosenSpeed speeds speed-count planned cycles termination terms chosen
       → Marked planned (course .fates) fates → Concluded speeds speed-count cycles termination course terms told
-  steps-8-and-9 placed by-rule marked = record {
+  steps-8-and-9 placed totalled by-rule marked = record {
     decided = λ t valid of by.
         let jobs : jobsAt (t .jobs) planned ≡ planOf t .jobs = by .jobs ∙ sym (jobs-planned t) in
         let found : chosen .speed ≡ planOf t .speed =
@@ -66,5 +70,8 @@ module _ (speeds : List Speed) (speed-count : ℕ) (cycles termination : List �
               ∙ fates-at-end t valid i h;
           speed = found;
           energy = by-rule .energy t of ∙ energy-planned t (jobsAt (t .jobs) planned) (chosen .speed) jobs found;
+          cycles =
+              totalled .total-true ∙ cycles-of-jobs cycles (t .jobs) (of .runs-of .cycles-of) planned ∙ ap cyclesOf jobs;
         };
+    turns-counted = refl;
   }

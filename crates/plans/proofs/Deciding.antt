@@ -13,12 +13,12 @@ use Rattle.columns.specs.declared.Columns.{Columns}
 use Rattle.columns.specs.declared.Terms.{Terms}
 use Rattle.laws.proofs.Elements.{each-at-place}
 use Rattle.grammar.proofs.Ranges.{SpeedRanges, clock-ranges, hold-ranges, speed-ranges}
-use Rattle.plans.specs.Promises.{Concludable, CourseRunnable, DecidedAs, PlacesOfJobs, Plannable, PlannableBy}
+use Rattle.plans.specs.Promises.{Concludable, CourseRunnable, DecidedAs, PlacesOfJobs, Plannable, PlannableBy, RoomsNoted, Totalled}
 use Rattle.plans.specs.declared.CourseTaken.{CourseTaken}
 use Rattle.plans.specs.declared.Decided.{Decided}
 use Rattle.rules.specs.Lists.{Each, lastOr}
 use Rattle.rules.specs.Plan.{topOf}
-use Rattle.rules.specs.TableText.{Record, inRange, mostHolds, mostJobs, mostSpeeds, noHold, noSpeed, recordsOf, tableWithBudget, withBudget}
+use Rattle.rules.specs.TableText.{Record, Records, inRange, mostHolds, mostJobs, mostSpeeds, noHold, noSpeed, recordsOf, tableWithBudget, withBudget}
 use Rattle.rules.specs.declared.Speed.{Speed}
 use Rattle.rules.specs.declared.Table.{Table}
 
@@ -117,9 +117,11 @@ module _ (table : Table) (budget : ℕ) (p : Plannable table budget) (all-speeds
     }
 
     pub table-concludable : (course : CourseTaken) → PlacesOfJobs (course .totals .count) (course .places)
+        → Totalled (course .totals) (course .places) (columns .cycles) terms
         → Concludable (table .speeds) (table .«speed_count») (columns .cycles) (columns .termination) course terms
-    table-concludable course placed = record {
+    table-concludable course placed totalled = record {
       placed = placed;
+      totalled = totalled;
       speeds-small =
           record {
             few = p .few-speeds;
@@ -129,6 +131,9 @@ module _ (table : Table) (budget : ℕ) (p : Plannable table budget) (all-speeds
       runs-small = record { cycles-small = ranges .cycles; termination-small = ranges .termination };
       terms-small = terms-in-range;
     }
+
+pub same-terms : (t : Records) {a b : Terms} → a ≡ b → TermsOf t b → TermsOf t a
+same-terms t e of = rw e of
 
 -- a table that can be planned with a budget, with that budget in its T
 pub by-its-parts : (table : Table) (budget : ℕ) (columns : Columns) → Plannable table budget → length (table .jobs) ≡ mostJobs
@@ -145,6 +150,12 @@ pub decided-beside : (table : Table) (budget : ℕ) (d : Decided) → DecidedAs 
     → DecidedAs (withBudget (recordsOf table) budget) d
 unfolding recordsOf
 decided-beside table budget d decided = decided
+
+pub noted-beside : (table : Table) (budget count : ℕ) (order rooms : List ℕ)
+    → RoomsNoted (recordsOf (tableWithBudget table budget)) count order rooms
+    → RoomsNoted (withBudget (recordsOf table) budget) count order rooms
+unfolding recordsOf
+noted-beside table budget count order rooms noted = noted
 
 -- in a valid table the count is that of the jobs
 pub jobs-counted : (table : Table) (budget : ℕ) → length (table .jobs) ≡ mostJobs → Plannable table budget

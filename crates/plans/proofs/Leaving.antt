@@ -1,20 +1,22 @@
 -- What is put into both buffers, and the numbers of the answer, are the rules': the plan's job numbers and then 0, a fate for
--- each job and then 0. Assumes nothing.
+-- each job and then 0; for the panel the numbers of the turns' jobs and the rooms, each with 0 behind. Assumes nothing.
 use mathlib.Core.List.{List, [], _∷_, map}
 use mathlib.Core.Path.{_≡_, refl, sym, ap, _∙_}
 use Prim.Native.Nat.{ℕ, suc, _≤_, _<_}
 use native.Mathlib.Omega.{arith}
-use lib.ListN.{getD, length, take}
+use lib.ListN.{getD, length, length-map, take}
 use lib.Seq.{length-take-le}
 use Rattle.columns.proofs.Entries.{length-jobs-at}
 use Rattle.columns.specs.Columns.{Column, jobsAt}
 use Rattle.steps.proofs.Planned.{fates-alone}
-use Rattle.plans.specs.Promises.{DecidedAs, leaves}
+use Rattle.plans.specs.Promises.{DecidedAs, RoomsNoted, leaves, tells}
 use Rattle.plans.specs.declared.Decided.{Decided}
 use Rattle.rules.specs.Plan.{courseOf, fateIn, fatesOf, leavesPlan, numbersOf, planFrom, planOf}
+use Rattle.rules.specs.Rooms.{TurnRoom, lastRoom, leavesRooms, roomsOf}
 use Rattle.rules.specs.TableText.{Records, mostJobs, noJob, padded}
 use Rattle.rules.specs.declared.Decision.{Decision}
 use Rattle.rules.specs.declared.Job.{Job}
+use Rattle.rules.specs.declared.Panel.{Panel}
 use Rattle.rules.specs.declared.Speed.{Speed}
 
 -- the numbers at the places are those of the jobs there
@@ -70,3 +72,34 @@ module _ (t : Records) (d : Decided) (number : List ℕ) (decided : DecidedAs t 
       (ap (λ n. take n (d .fates)) e
       ∙ front-of-column (fateIn t (courseOf t)) (t .jobs) (d .fates) (omega (arith, all-fates, few-jobs)) (decided .fates)
       ∙ sym (fates-planned t)))
+
+-- the panel's answer, part by part
+same-telling : (t : Records) (count room : ℕ) (turns rooms turns' rooms' : List ℕ) → count ≡ length (roomsOf t)
+    → room ≡ lastRoom t → turns' ≡ padded (length turns) 0 (map (λ (r : TurnRoom). r .job .number) (roomsOf t))
+    → rooms' ≡ padded (length rooms) 0 (map (λ (r : TurnRoom). r .room) (roomsOf t))
+    → tells (Panel.Told count room) turns' rooms' ≡ leavesRooms t turns rooms
+unfolding leavesRooms
+same-telling t count room turns rooms turns' rooms' c l n r = rw (c, l, n, r)
+
+-- the numbers of the rows' jobs
+row-numbers : (rs : List TurnRoom) → numbersOf (map (λ (r : TurnRoom). r .job) rs) ≡ map (λ (r : TurnRoom). r .job .number) rs
+unfolding numbersOf
+row-numbers [] = refl
+row-numbers (r ∷ rs) = ap {B = List ℕ} (λ ns. r .job .number ∷ ns) (row-numbers rs)
+
+pub rooms-left : (t : Records) (count : ℕ) (order rooms number : List ℕ) → RoomsNoted t count order rooms
+    → Column (λ j. j .number) (t .jobs) number → count ≤ length rooms → (room : ℕ) → room ≡ lastRoom t
+    → (turns rooms₀ turns' rooms' : List ℕ) → length rooms ≡ length rooms₀
+    → turns' ≡ padded (length turns) 0 (map (λ p. getD number p 0) (take count order))
+    → rooms' ≡ padded (length rooms) 0 (take count rooms)
+    → tells (Panel.Told count room) turns' rooms' ≡ leavesRooms t turns rooms₀
+rooms-left t count order rooms number noted of few room last turns rooms₀ turns' rooms' whole n r =
+    same-telling t count room turns rooms₀ turns' rooms'
+    (sym (length-take-le count rooms few)
+    ∙ ap length (noted .row-rooms)
+    ∙ length-map (roomsOf t) (λ (r : TurnRoom). r .room))
+    last
+    (n
+    ∙ ap (padded (length turns) 0)
+    (numbers-at (t .jobs) number of (take count order) ∙ ap numbersOf (noted .row-jobs) ∙ row-numbers (roomsOf t)))
+    (r ∙ ap (λ m. padded m 0 (take count rooms)) whole ∙ ap (padded (length rooms₀) 0) (noted .row-rooms))

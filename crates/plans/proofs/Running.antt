@@ -2,14 +2,15 @@
 -- Assumes nothing.
 use mathlib.Core.List.{List, map}
 use mathlib.Core.Path.{_≡_, sym, ap}
-use Prim.Native.Nat.{ℕ}
+use Prim.Native.Nat.{ℕ, _≤_}
 use native.Mathlib.Omega.{arith}
 use lib.ListN.{length, take}
-use Rattle.columns.specs.Columns.{AllBelow, RunsOf}
+use Rattle.columns.specs.Columns.{AllBelow, ColumnsOf, RunsOf, TermsOf}
 use Rattle.columns.specs.declared.Columns.{Columns}
 use Rattle.columns.specs.declared.Terms.{Terms}
+use Rattle.plans.proofs.Noting.{rooms-noted}
 use Rattle.plans.specs.Courses.{courseBy, turnAt}
-use Rattle.plans.specs.Promises.{CourseRun, TurnsTaken}
+use Rattle.plans.specs.Promises.{CourseNoted, CourseRun, TurnsNoted, TurnsOf, TurnsTaken}
 use Rattle.plans.specs.declared.CourseTaken.{CourseTaken}
 use Rattle.ranks.specs.Promises.{RatioColumns, TurnOrder}
 use Rattle.ranks.specs.declared.Ratios.{Ratios}
@@ -17,9 +18,10 @@ use Rattle.ranks.specs.declared.Turns.{Turns}
 use Rattle.remaining.specs.Promises.{Staged}
 use Rattle.remaining.specs.declared.Left.{Left}
 use Rattle.rules.specs.Plan.{course, courseOf, noTurnYet, turns}
-use Rattle.rules.specs.TableText.{Records}
+use Rattle.rules.specs.TableText.{Records, mostJobs}
+use Rattle.rules.specs.Valid.{Valid}
 use Rattle.rules.specs.declared.Hold.{Hold}
-use Rattle.trials.specs.Promises.{columnsRead}
+use Rattle.trials.specs.Promises.{TurnColumns, columnsRead}
 
 -- in the order of turns, the course is that of the table
 course-in-order : (t : Records) (order : List ℕ) (n : ℕ) → map (turnAt t) (take n order) ≡ turns t
@@ -31,36 +33,63 @@ below-as : (n m : ℕ) (xs : List ℕ) → n ≡ m → AllBelow n xs → AllBelo
 below-as n m xs e below i h = omega (arith, below i h)
 
 module _ (holds : List Hold) (hold-count : ℕ) (c : Columns) (terms : Terms) (left : Left) (ratios : Ratios) (order : Turns)
-    (r : CourseTaken) where
-  pub steps-1-to-7 : Staged holds hold-count (c .number) (c .cycles) (c .worth) (c .termination) (c .request) terms left
-      → RatioColumns (left .fates) (left .waits) (c .cycles) (c .worth) (c .termination) terms ratios
-      → TurnOrder (left .fates) (c .number) (ratios .over) (ratios .under) (terms .«job_count») order
-      → TurnsTaken order (ratios .over) (columnsRead (left .waits) (c .critical) (c .cycles) (c .termination)) (left .fates)
-      terms r
-      → CourseRun holds hold-count c terms r
-  steps-1-to-7 staged ratios-of ordered taken = record {
-    placed = taken .placed;
-    course = λ t valid of holds-of columns.
+    (r : CourseTaken)
+    (staged : Staged holds hold-count (c .number) (c .cycles) (c .worth) (c .termination) (c .request) terms left)
+    (ratios-of : RatioColumns (left .fates) (left .waits) (c .cycles) (c .worth) (c .termination) terms ratios)
+    (ordered : TurnOrder (left .fates) (c .number) (ratios .over) (ratios .under) (terms .«job_count») order) where
+  abbrev columns-read : TurnColumns
+  columns-read = columnsRead (left .waits) (c .critical) (c .cycles) (c .termination)
+
+  -- the turns are the table's, in their order
+  module _ (t : Records) (valid : Valid t) (of : TermsOf t terms) (holds-of : take hold-count holds ≡ t .holds)
+      (columns : ColumnsOf (t .jobs) c) where
+    turns-of : TurnsOf t order (ratios .over) columns-read (left .fates) terms
+        × (map (turnAt t) (take (order .count) (order .order)) ≡ turns t)
+    turns-of =
         let runs : RunsOf (t .jobs) (c .cycles) (c .termination) =
         record { cycles-of = columns .cycles; termination-of = columns .termination } in
         let stage = staged .stage t valid of holds-of (columns .number) runs (columns .worth) (columns .request) in
         let told = ratios-of .ratios t of (stage .waits-left) runs (columns .worth) in
-        let in-order = ordered .in-order t valid (sym (of .job-count)) (columns .number) (stage .fates-so-far) told in
-        rw (sym (course-in-order t (order .order) (order .count) in-order))
-        (taken .course t (record {
-          valid = valid;
-          terms-of = of;
-          columns-of =
-              record {
-                waits-left = stage .waits-left;
-                critical-of = columns .critical;
-                runs-of = runs;
-              };
-          fates-so-far = stage .fates-so-far;
-          of-jobs =
-              below-as (terms .«job_count») (length (t .jobs)) (take (order .count) (order .order)) (of .job-count)
-              (ordered .below);
-          remain = ordered .remain;
-          over-of = told .over-of;
-        }));
+        let in-order = ordered .in-order t valid (sym (of .job-count)) (columns .number) (stage .fates-so-far) told in (
+          record {
+            valid = valid;
+            terms-of = of;
+            columns-of =
+                record {
+                  waits-left = stage .waits-left;
+                  critical-of = columns .critical;
+                  runs-of = runs;
+                };
+            fates-so-far = stage .fates-so-far;
+            of-jobs =
+                below-as (terms .«job_count») (length (t .jobs)) (take (order .count) (order .order)) (of .job-count)
+                (ordered .below);
+            remain = ordered .remain;
+            over-of = told .over-of;
+          },
+          in-order,
+        )
+
+  pub steps-1-to-7 : TurnsTaken order (ratios .over) columns-read (left .fates) terms r → CourseRun holds hold-count c terms r
+  steps-1-to-7 taken = record {
+    placed = taken .placed;
+    totalled = taken .totalled;
+    course = λ t valid of holds-of columns.
+        let known = turns-of t valid of holds-of columns in
+        rw (sym (course-in-order t (order .order) (order .count) (known .1))) (taken .course t (known .0));
+  }
+
+  pub turns-noted : (places rooms places' rooms' : List ℕ) → order .count ≤ mostJobs → length (order .order) ≡ mostJobs
+      → r .turns ≡ order .count
+      → TurnsNoted (order .count) order (ratios .over) columns-read (left .fates) terms places rooms places' rooms'
+      → CourseNoted holds hold-count c terms r places rooms places' rooms'
+  turns-noted places rooms places' rooms' few all-places counted noted = record {
+    few = omega (arith, counted, few);
+    order-whole = noted .order-whole;
+    rooms-whole = noted .rooms-whole;
+    noted = λ t valid of holds-of columns long-order long-rooms.
+        let known = turns-of t valid of holds-of columns in
+        rw counted
+        (rooms-noted order (ratios .over) columns-read (left .fates) terms t (known .0) places rooms places' rooms' noted
+        (omega (arith, few, all-places)) (omega arith) (omega arith) (known .1));
   }

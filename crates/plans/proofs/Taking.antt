@@ -2,23 +2,27 @@
 -- fates for its fates. Assumes nothing.
 use mathlib.Core.List.{List}
 use mathlib.Core.Path.{_≡_, refl, sym, ap, _∙_}
-use Prim.Native.Nat.{ℕ, _+_, _≤_, _<_}
+use Prim.Native.Nat.{ℕ, _+_, _*_, _-_, _≤_, _<_}
 use native.Mathlib.Omega.{arith}
 use lib.ListN.{getD, length, set, take}
 use lib.Seq.{getD-take, length-take-le}
 use Rattle.chains.specs.Stage.{fateSoFar}
 use Rattle.columns.proofs.Entries.{jobs-of-entries}
+use Rattle.columns.specs.Columns.{Column, TermsOf, jobsAt}
 use Rattle.columns.specs.declared.Terms.{Terms}
 use Rattle.entries.proofs.Found.{in-plan-among}
+use Rattle.entries.proofs.Sums.{cycles-of-jobs}
+use Rattle.entries.specs.Promises.{cyclesAt}
 use Rattle.plans.proofs.Courses.{fates-after, fates-at-start, one-more-turn, plan-after}
 use Rattle.plans.specs.Courses.{FatesByTurn, courseBy, jobAt, turnAt}
 use Rattle.plans.specs.Promises.{CourseBy, TurnsOf}
 use Rattle.plans.specs.declared.CourseTaken.{CourseTaken}
 use Rattle.ranks.specs.declared.Turns.{Turns}
 use Rattle.rules.specs.Lists.{Rising}
-use Rattle.rules.specs.Plan.{Course, Outcome, course, inPlan, jobsOf, noTurnYet, turn}
+use Rattle.rules.specs.Plan.{Course, Outcome, course, cyclesOf, inPlan, jobsOf, noTurnYet, runOrder, turn}
+use Rattle.rules.specs.Rooms.{roomLeft}
 use Rattle.rules.specs.TableText.{Records}
-use Rattle.trials.specs.Promises.{OfJobs, TurnOf, TurnTaken, planIn, PlanParts, TurnColumns, planParts}
+use Rattle.trials.specs.Promises.{OfJobs, PlanParts, TurnColumns, TurnOf, TurnTaken, planIn, planParts, plannedPlaces}
 use Rattle.steps.proofs.RunOrder.{run-order}
 use Rattle.trials.specs.declared.JobInTurn.{JobInTurn}
 
@@ -34,7 +38,7 @@ module _ (t : Records) (turns : Turns) (over : List ℕ) (columns : TurnColumns)
   order = turns .order
 
   pub at-start : (places keys : List ℕ)
-      → OnCourse t (courseBy t (turns .order) 0) (planParts (record { count = 0 }) places keys) so-far
+      → OnCourse t (courseBy t (turns .order) 0) (planParts (record { count = 0; cycles = 0 }) places keys) so-far
   unfolding course noTurnYet
   at-start places keys = record {
     plan = refl;
@@ -85,13 +89,27 @@ module _ (t : Records) (turns : Turns) (over : List ℕ) (columns : TurnColumns)
                 (ap (λ (o : Outcome). o .fate) goes) (on .fates-by-turn));
           }
 
+-- the jobs at the plan's places are those of the course, in the order in which they are run
+pub jobs-run : (t : Records) (c : Course) (p : PlanParts) → planIn (t .jobs) p ≡ c .plan
+    → jobsAt (t .jobs) (plannedPlaces p) ≡ runOrder t (c .plan)
+jobs-run t c p e =
+    sym (jobs-of-entries (t .jobs) (p .keys) (plannedPlaces p)) ∙ ap jobsOf e ∙ sym (run-order t (c .plan))
+
+-- the room by the plan record's total is the room by all the entries
+pub room-by-record : (t : Records) (c : Course) (places cycles : List ℕ) (total : ℕ) (terms : Terms) → TermsOf t terms
+    → Column (λ j. j .cycles) (t .jobs) cycles → jobsAt (t .jobs) places ≡ runOrder t (c .plan) → total ≡ cyclesAt cycles places
+    → terms .budget - total * terms .cost ≡ roomLeft t (c .plan)
+unfolding roomLeft
+room-by-record t c places cycles total terms of column jobs total-true =
+    rw (of .budget, of .cost, total-true ∙ cycles-of-jobs cycles (t .jobs) column places ∙ ap cyclesOf jobs)
+
 -- after the last turn
 pub at-end : (t : Records) → (c : Course) (r : CourseTaken) (keys : List ℕ) → Rising (λ j. j .number) (t .jobs)
     → OnCourse t c (planParts (r .totals) (r .places) keys) (r .fates) → CourseBy t c r
 at-end t c r keys rising on =
     let ps = take (r .totals .count) (r .places) in
     record {
-      jobs = sym (jobs-of-entries (t .jobs) keys ps) ∙ ap jobsOf (on .plan) ∙ sym (run-order t (c .plan));
+      jobs = jobs-run t c (planParts (r .totals) (r .places) keys) (on .plan);
       planned = λ i h.
           sym (in-plan-among (t .jobs) rising keys i h ps (on .of-jobs)) ∙ ap (inPlan (jobAt t i)) (on .plan);
       fates = on .fates-by-turn;

@@ -5,6 +5,7 @@ use mathlib.Core.Path.{_≡_}
 use Prim.Native.Nat.{ℕ, _<_}
 use lib.ListN.{getD, length, take}
 use Rattle.rules.specs.Plan.{Course, Turn, course, fateDeadlock, fateLate, lateIn, leavesItsRing, ownFate, noTurnYet, turnOf}
+use Rattle.rules.specs.Rooms.{roomLeft}
 use Rattle.rules.specs.TableText.{Records, noJob}
 use Rattle.rules.specs.declared.Job.{Job}
 
@@ -19,6 +20,10 @@ turnAt t p = turnOf t (jobAt t p)
 -- the course of the first n turns of an order of places
 abbrev pub courseBy : Records → List ℕ → ℕ → Course
 courseBy t order n = course t (map (turnAt t) (take n order)) noTurnYet
+
+-- the room after them
+abbrev pub roomBy : Records → List ℕ → ℕ → ℕ
+roomBy t order n = roomLeft t (courseBy t order n .plan)
 
 -- the fate of step 1 or 2, or that of the job's own turn, or 0 where it had none
 unfoldable pub fateByTurn : Records → Course → Job → ℕ

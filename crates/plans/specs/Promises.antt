@@ -1,31 +1,35 @@
 -- What the functions of steps 5 to 9 ask and promise.
 use mathlib.Core.Bool.{cond}
-use mathlib.Core.List.{List}
+use mathlib.Core.List.{List, map}
 use mathlib.Core.Path.{_≡_}
-use Prim.Native.Nat.{ℕ, _-_, _≤_, _<_}
-use lib.ListN.{getD, length, take}
+use Prim.Native.Nat.{ℕ, _+_, _-_, _*_, _≤_, _<_}
+use lib.ListN.{getD, length, set, take}
 use Rattle.chains.specs.Promises.{Holdable}
 use Rattle.chains.specs.Stage.{FatesSoFar}
 use Rattle.columns.specs.Columns.{AllBelow, ColumnsOf, TermsOf, jobsAt}
 use Rattle.columns.specs.Ranges.{ColumnsInRange, RunsInRange, TermsInRange}
 use Rattle.columns.specs.declared.Columns.{Columns}
 use Rattle.columns.specs.declared.Terms.{Terms}
+use Rattle.entries.specs.Promises.{cyclesAt}
 use Rattle.laws.specs.Pairs.{among}
-use Rattle.plans.specs.Courses.{FatesByTurn, courseBy, jobAt}
+use Rattle.plans.specs.Courses.{FatesByTurn, courseBy, jobAt, roomBy}
 use Rattle.plans.specs.declared.CourseTaken.{CourseTaken}
 use Rattle.plans.specs.declared.Decided.{Decided}
 use Rattle.ranks.specs.declared.Turns.{Turns}
-use Rattle.rules.specs.Answers.{decisionSays}
-use Rattle.rules.specs.Plan.{AfterPlanning, Course, chainOf, courseOf, fateIn, fatePlanned, inPlan, planOf, ratioOf, runOrder}
+use Rattle.rules.specs.Answers.{decisionSays, panelSays}
+use Rattle.rules.specs.Plan.{AfterPlanning, Course, chainOf, courseOf, cyclesOf, fateIn, fatePlanned, inPlan, planOf, ratioOf, runOrder}
+use Rattle.rules.specs.Rooms.{AfterRooms, TurnRoom, roomsOf}
 use Rattle.rules.specs.TableText.{Records, mostHolds, mostJobs, mostSpeeds, noSpeed, recordsOf, withBudget}
 use Rattle.rules.specs.Valid.{Valid}
 use Rattle.rules.specs.declared.Decision.{Decision}
 use Rattle.rules.specs.declared.Hold.{Hold}
 use Rattle.rules.specs.declared.Job.{Job}
+use Rattle.rules.specs.declared.Panel.{Panel}
 use Rattle.rules.specs.declared.Speed.{Speed}
 use Rattle.rules.specs.declared.Table.{Table}
 use Rattle.speeds.specs.Promises.{SpeedsInRange, SpeedsOf}
 use Rattle.trials.specs.Promises.{TurnColumns, TurnColumnsInRange, TurnColumnsOf}
+use Rattle.trials.specs.declared.Totals.{Totals}
 
 -- What the course of turns asks: places, columns and terms in their ranges.
 pub record Takeable (turns : Turns) (c : TurnColumns) (terms : Terms) : Type 0 where
@@ -58,12 +62,34 @@ pub record PlacesOfJobs (count : ℕ) (places : List ℕ) : Type 0 where
   pub few : count ≤ mostJobs
   pub below : AllBelow mostJobs (take count places)
 
+-- The record's total is the sum of the cycles at these places, and within budget at top cost.
+pub record Totalled (totals : Totals) (places cycles : List ℕ) (terms : Terms) : Type 0 where
+  pub total-true : totals .cycles ≡ cyclesAt cycles (take (totals .count) places)
+  pub within : totals .cycles * terms .cost ≤ terms .budget
+
 -- The course of these turns.
 pub record TurnsTaken (turns : Turns) (over : List ℕ) (c : TurnColumns) (so-far : List ℕ) (terms : Terms) (r : CourseTaken)
     : Type 0 where
   pub placed : PlacesOfJobs (r .totals .count) (r .places)
+  pub totalled : Totalled (r .totals) (r .places) (c .cycles) terms
+  pub turns-counted : r .turns ≡ turns .count
   pub course : (t : Records) → TurnsOf t turns over c so-far terms
       → CourseBy t (courseBy t (turns .order) (turns .count)) r
+
+-- A turn noted, where there is a place for it.
+pub record TurnNoted (turn place room : ℕ) (order rooms order' rooms' : List ℕ) : Type 0 where
+  pub place-stored : order' ≡ set order turn place
+  pub room-stored : turn < length order → rooms' ≡ set rooms turn room
+  pub else-kept : length order ≤ turn → rooms' ≡ rooms
+
+-- What is noted of the first n of these turns, where there is a place for it: the place of its job, and the room after it.
+pub record TurnsNoted (n : ℕ) (turns : Turns) (over : List ℕ) (c : TurnColumns) (so-far : List ℕ) (terms : Terms)
+    (order rooms order' rooms' : List ℕ) : Type 0 where
+  pub order-whole : length order' ≡ length order
+  pub rooms-whole : length rooms' ≡ length rooms
+  pub place-noted : (k : ℕ) → k < n → k < length order → getD order' k 0 ≡ getD (turns .order) k 0
+  pub room-noted : (t : Records) → TurnsOf t turns over c so-far terms → (k : ℕ) → k < n → k < length order → k < length rooms
+      → getD rooms' k 0 ≡ roomBy t (turns .order) (k + 1)
 
 -- the columns side by side
 abbrev pub besides : List ℕ → List ℕ → List ℕ → List ℕ → List ℕ → List ℕ → Columns
@@ -85,8 +111,24 @@ pub record CourseRunnable (holds : List Hold) (hold-count : ℕ) (columns : Colu
 -- The course of the table's turns.
 pub record CourseRun (holds : List Hold) (hold-count : ℕ) (columns : Columns) (terms : Terms) (r : CourseTaken) : Type 0 where
   pub placed : PlacesOfJobs (r .totals .count) (r .places)
+  pub totalled : Totalled (r .totals) (r .places) (columns .cycles) terms
   pub course : (t : Records) → Valid t → TermsOf t terms → take hold-count holds ≡ t .holds
       → ColumnsOf (t .jobs) columns → CourseBy t (courseOf t) r
+
+-- The rows of the rooms, by the places of their jobs in the order of turns, and by the rooms.
+pub record RoomsNoted (t : Records) (count : ℕ) (order rooms : List ℕ) : Type 0 where
+  pub below : AllBelow (length (t .jobs)) (take count order)
+  pub row-jobs : jobsAt (t .jobs) (take count order) ≡ map (λ (r : TurnRoom). r .job) (roomsOf t)
+  pub row-rooms : take count rooms ≡ map (λ (r : TurnRoom). r .room) (roomsOf t)
+
+-- What is noted of the table's turns, where there is a place for each.
+pub record CourseNoted (holds : List Hold) (hold-count : ℕ) (columns : Columns) (terms : Terms) (r : CourseTaken)
+    (order rooms order' rooms' : List ℕ) : Type 0 where
+  pub few : r .turns ≤ mostJobs
+  pub order-whole : length order' ≡ length order
+  pub rooms-whole : length rooms' ≡ length rooms
+  pub noted : (t : Records) → Valid t → TermsOf t terms → take hold-count holds ≡ t .holds → ColumnsOf (t .jobs) columns
+      → mostJobs ≤ length order → mostJobs ≤ length rooms → RoomsNoted t (r .turns) order' rooms'
 
 -- At each of these places 1; the others as they were.
 pub record Marked (places fates fates' : List ℕ) : Type 0 where
@@ -96,22 +138,25 @@ pub record Marked (places fates fates' : List ℕ) : Type 0 where
 pub record Concludable (speeds : List Speed) (speed-count : ℕ) (cycles termination : List ℕ) (course : CourseTaken) (terms : Terms)
     : Type 0 where
   pub placed : PlacesOfJobs (course .totals .count) (course .places)
+  pub totalled : Totalled (course .totals) (course .places) cycles terms
   pub speeds-small : SpeedsInRange speeds speed-count
   pub runs-small : RunsInRange cycles termination
   pub terms-small : TermsInRange terms
 
--- What is decided is the rules' plan: its jobs by their places, a fate for each job, the speed and the energy.
+-- What is decided is the rules' plan: its jobs by their places, a fate for each job, the speed and the energy, and all cycles.
 pub record DecidedAs (t : Records) (d : Decided) : Type 0 where
   pub placed : PlacesOfJobs (d .count) (d .places)
   pub jobs : jobsAt (t .jobs) (take (d .count) (d .places)) ≡ planOf t .jobs
   pub fates : (i : ℕ) → i < length (t .jobs) → getD (d .fates) i 0 ≡ fateIn t (courseOf t) (jobAt t i)
   pub speed : d .speed ≡ planOf t .speed
   pub energy : d .energy ≡ planOf t .energy
+  pub cycles : d .cycles ≡ cyclesOf (planOf t .jobs)
 
 pub record Concluded (speeds : List Speed) (speed-count : ℕ) (cycles termination : List ℕ) (course : CourseTaken) (terms : Terms)
     (r : Decided) : Type 0 where
   pub decided : (t : Records) → Valid t → SpeedsOf t speeds speed-count cycles termination terms
       → CourseBy t (courseOf t) course → DecidedAs t r
+  pub turns-counted : r .turns ≡ course .turns
 
 -- A table whose records are valid with this budget, no count beyond its places.
 pub record Plannable (table : Table) (budget : ℕ) : Type 0 where
@@ -158,6 +203,20 @@ Decides clock budget speeds speed-count holds hold-count job-count columns r =
     (jobs : List Job) → PlannableBy (assembled clock budget speeds speed-count holds hold-count job-count jobs) columns
     → DecidedAs (recordsOf (assembled clock budget speeds speed-count holds hold-count job-count jobs)) r
 
+-- What is noted of the turns of each table of these parts, where there is a place for each.
+pub record DecisionNoted (clock budget : ℕ) (speeds : List Speed) (speed-count : ℕ) (holds : List Hold) (hold-count job-count : ℕ)
+    (columns : Columns) (r : Decided) (order rooms order' rooms' : List ℕ) : Type 0 where
+  pub few : r .turns ≤ mostJobs
+  pub order-whole : length order' ≡ length order
+  pub rooms-whole : length rooms' ≡ length rooms
+  pub noted : (jobs : List Job) → PlannableBy (assembled clock budget speeds speed-count holds hold-count job-count jobs) columns
+      → mostJobs ≤ length order → mostJobs ≤ length rooms
+      → RoomsNoted (recordsOf (assembled clock budget speeds speed-count holds hold-count job-count jobs)) (r .turns) order' rooms'
+
 -- the decision beside what both buffers hold
 abbrev pub leaves : Decision → List ℕ → List ℕ → AfterPlanning
 leaves d order fates = record { answer = decisionSays d; order = order; fates = fates }
+
+-- the panel's answer beside what both buffers hold
+abbrev pub tells : Panel → List ℕ → List ℕ → AfterRooms
+tells a turns rooms = record { answer = panelSays a; turns = turns; rooms = rooms }

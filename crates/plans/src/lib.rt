@@ -1,7 +1,9 @@
-// Steps 5 to 9 of "From jobs to a plan": the course of turns, the fates, and the plan of a valid table.
+// Steps 5 to 9 of "From jobs to a plan": the course of turns, the fates, the plan of a valid table, and its rooms (document 02, A2).
 use columns::Columns;
 use columns::Terms;
 use columns::columns_of;
+use filling::clear_behind;
+use filling::note;
 use filling::put_fates;
 use filling::put_order;
 use ranks::Turns;
@@ -14,6 +16,7 @@ use rules::Hold;
 use rules::MOST_HOLDS;
 use rules::MOST_JOBS;
 use rules::MOST_SPEEDS;
+use rules::Panel;
 use rules::Speed;
 use rules::Table;
 use speeds::choose_speed;
@@ -22,31 +25,64 @@ use trials::NOT_PLANNED;
 use trials::Totals;
 use trials::turn;
 ghost use mathlib.Core.Path.{_≡_};
-ghost use Prim.Native.Nat.{_≤_};
+ghost use Prim.Native.Nat.{_-_, _*_, _≤_};
 ghost use lib.ListN.{length};
 ghost use Rattle.columns.specs.Columns.{AllBelow};
-ghost use Rattle.plans.specs.Promises.{Concludable, Concluded, CourseRun, CourseRunnable, Decidable, Decides, Marked, Plannable, Takeable, TurnsTaken, besides, leaves, termsBy};
+ghost use Rattle.plans.specs.Promises.{Concludable, Concluded, CourseNoted, CourseRun, CourseRunnable, Decidable, Decides, DecisionNoted, Marked, Plannable, Takeable, TurnNoted, TurnsNoted, TurnsTaken, besides, leaves, tells, termsBy};
 ghost use Rattle.rules.specs.Plan.{leavesPlan, planOf};
+ghost use Rattle.rules.specs.Rooms.{leavesRooms};
 ghost use Rattle.rules.specs.TableText.{mostJobs, mostSpeeds, recordsOf, withBudget};
 ghost use Rattle.trials.specs.Promises.{columnsRead};
 
-// What the course of turns leaves: the plan's places, its totals, and the fate that each job's own turn gave.
+// What the course of turns leaves: the plan's places, its totals, the fate that each job's own turn gave, and how many turns
+// there were.
 pub struct CourseTaken {
     pub places: [u64; MOST_JOBS],
     pub totals: Totals,
     pub fates: [u64; MOST_JOBS],
+    pub turns: usize,
 }
 
-// The decision: the plan's places, how many they are, each job's fate, the speed and the energy.
+// The decision: the plan's places, how many they are, each job's fate, the speed and the energy; how many turns there were, and
+// the plan record's total.
 pub struct Decided {
     pub places: [u64; MOST_JOBS],
     pub count: usize,
     pub fates: [u64; MOST_JOBS],
     pub speed: Speed,
     pub energy: u64,
+    pub turns: usize,
+    pub cycles: u64,
 }
 
-// Step 5, "Turns": each job of the order in its turn, from the empty plan.
+// Document 02, A2: "how much budget the plan leaves at top cost", from the plan record.
+fn room_left(cycles: u64, terms: Terms) -> u64
+    requires { ⌜ cycles * terms .cost ≤ terms .budget ⌝ }
+    ensures { λ r. ⌜ r ≡ terms .budget - cycles * terms .cost ⌝ }
+{
+    terms.budget - cycles * terms.cost
+}
+
+// Of a turn the place of its job and the room after it, where there is a place for them. Planning lends none.
+fn note_turn(
+    order: &mut [u64],
+    rooms: &mut [u64],
+    turn: usize,
+    place: u64,
+    totals: Totals,
+    terms: Terms,
+)
+    requires { ⌜ totals .cycles * terms .cost ≤ terms .budget ⌝ }
+    ensures { λ _. ⌜ TurnNoted turn place (terms .budget - totals .cycles * terms .cost) (now (order .entry)) (now (rooms .entry)) (now (order .exit)) (now (rooms .exit)) ⌝ }
+{
+    if order.len() <= turn {
+        return;
+    }
+    order[turn] = place;
+    note(rooms, turn, room_left(totals.cycles, terms));
+}
+
+// Step 5, "Turns": each job of the order in its turn, from the empty plan. Each turn is noted.
 fn take_turns<'a>(
     turns: Turns,
     over: &'a [u64; MOST_JOBS],
@@ -56,14 +92,22 @@ fn take_turns<'a>(
     termination: &'a [u64; MOST_JOBS],
     so_far: [u64; MOST_JOBS],
     terms: Terms,
+    order: &mut [u64],
+    rooms: &mut [u64],
 ) -> CourseTaken
     requires { ⌜ Takeable turns (columnsRead (now waits) (now critical) (now cycles) (now termination)) terms ⌝ }
-    ensures { λ r. ⌜ TurnsTaken turns (now (over .entry)) (columnsRead (now (waits .entry)) (now (critical .entry)) (now (cycles .entry)) (now (termination .entry))) «so_far» terms r ⌝ }
+    ensures { λ r. ⌜
+        TurnsTaken turns (now (over .entry)) (columnsRead (now (waits .entry)) (now (critical .entry)) (now (cycles .entry)) (now (termination .entry))) «so_far» terms r
+        × TurnsNoted (turns .count) turns (now (over .entry)) (columnsRead (now (waits .entry)) (now (critical .entry)) (now (cycles .entry)) (now (termination .entry))) «so_far» terms (now (order .entry)) (now (rooms .entry)) (now (order .exit)) (now (rooms .exit))
+        ⌝ }
 {
     let mut places = [0; MOST_JOBS];
     let mut keys = [NOT_PLANNED; MOST_JOBS];
     let mut kept = [0; MOST_JOBS];
-    let mut totals = Totals { count: 0 };
+    let mut totals = Totals {
+        count: 0,
+        cycles: 0,
+    };
     let mut fates = so_far;
     let mut i = 0;
     while i < turns.count {
@@ -86,12 +130,14 @@ fn take_turns<'a>(
         );
         totals = turned.totals;
         fates[place] = turned.fate;
+        note_turn(order, rooms, i, place as u64, totals, terms);
         i += 1;
     }
     CourseTaken {
         places,
         totals,
         fates,
+        turns: turns.count,
     }
 }
 
@@ -110,8 +156,9 @@ fn mark_planned(fates: [u64; MOST_JOBS], places: &[u64]) -> [u64; MOST_JOBS]
     marked
 }
 
-// Steps 1 to 7: the course of all turns. The columns are lent one by one: by value they would be copied once more.
-fn course_of<'a>(
+// Steps 1 to 7: the course of all turns, noted as `take_turns` notes it. The columns are lent one by one: by value they would be
+// copied once more.
+pub fn course_of<'a>(
     holds: [Hold; MOST_HOLDS],
     hold_count: usize,
     number: &'a [u64; MOST_JOBS],
@@ -121,9 +168,14 @@ fn course_of<'a>(
     termination: &'a [u64; MOST_JOBS],
     request: &'a [u64; MOST_JOBS],
     terms: Terms,
+    order: &mut [u64],
+    rooms: &mut [u64],
 ) -> CourseTaken
     requires { ⌜ CourseRunnable holds «hold_count» (besides (now number) (now cycles) (now worth) (now critical) (now termination) (now request)) terms ⌝ }
-    ensures { λ r. ⌜ CourseRun holds «hold_count» (besides (now (number .entry)) (now (cycles .entry)) (now (worth .entry)) (now (critical .entry)) (now (termination .entry)) (now (request .entry))) terms r ⌝ }
+    ensures { λ r. ⌜
+        CourseRun holds «hold_count» (besides (now (number .entry)) (now (cycles .entry)) (now (worth .entry)) (now (critical .entry)) (now (termination .entry)) (now (request .entry))) terms r
+        × CourseNoted holds «hold_count» (besides (now (number .entry)) (now (cycles .entry)) (now (worth .entry)) (now (critical .entry)) (now (termination .entry)) (now (request .entry))) terms r (now (order .entry)) (now (rooms .entry)) (now (order .exit)) (now (rooms .exit))
+        ⌝ }
 {
     let left = take_out(
         holds,
@@ -148,6 +200,8 @@ fn course_of<'a>(
         termination,
         so_far,
         terms,
+        order,
+        rooms,
     )
 }
 
@@ -167,7 +221,16 @@ fn conclude<'a>(
     let totals = course.totals;
     let count = totals.count;
     let planned = &places[..count];
-    let chosen = choose_speed(speeds, speed_count, planned, cycles, termination, terms);
+    let all_cycles = totals.cycles;
+    let chosen = choose_speed(
+        speeds,
+        speed_count,
+        planned,
+        all_cycles,
+        cycles,
+        termination,
+        terms,
+    );
     let speed = chosen.speed;
     let by_turn = course.fates;
     let fates = mark_planned(by_turn, planned);
@@ -177,11 +240,13 @@ fn conclude<'a>(
         fates: fates,
         speed: speed,
         energy: chosen.energy,
+        turns: course.turns,
+        cycles: all_cycles,
     }
 }
 
 // The clock, the budget and the top speed, as the steps take them.
-fn terms_of(
+pub fn terms_of(
     clock: u64,
     budget: u64,
     speeds: [Speed; MOST_SPEEDS],
@@ -201,7 +266,8 @@ fn terms_of(
     }
 }
 
-// Steps 1 to 9 on a valid table, by its columns and its other parts: a whole table given to a function is copied.
+// Steps 1 to 9 on a valid table, by its columns and its other parts: a whole table given to a function is copied. The turns are
+// noted as the course of turns notes them.
 pub fn decide(
     clock: u64,
     budget: u64,
@@ -211,9 +277,14 @@ pub fn decide(
     hold_count: usize,
     job_count: usize,
     columns: Columns,
+    order: &mut [u64],
+    rooms: &mut [u64],
 ) -> Decided
     requires { ⌜ Decidable clock budget speeds «speed_count» holds «hold_count» «job_count» columns ⌝ }
-    ensures { λ r. ⌜ Decides clock budget speeds «speed_count» holds «hold_count» «job_count» columns r ⌝ }
+    ensures { λ r. ⌜
+        Decides clock budget speeds «speed_count» holds «hold_count» «job_count» columns r
+        × DecisionNoted clock budget speeds «speed_count» holds «hold_count» «job_count» columns r (now (order .entry)) (now (rooms .entry)) (now (order .exit)) (now (rooms .exit))
+        ⌝ }
 {
     let terms = terms_of(clock, budget, speeds, speed_count, job_count);
     let course = course_of(
@@ -226,6 +297,8 @@ pub fn decide(
         &columns.termination,
         &columns.request,
         terms,
+        order,
+        rooms,
     );
     conclude(
         speeds,
@@ -245,6 +318,8 @@ pub fn plan_table(table: Table, budget: u64, order: &mut [u64], fates: &mut [u64
     let columns = columns_of(table);
     let speeds = table.speeds;
     let holds = table.holds;
+    let mut no_order = [0; 0];
+    let mut no_rooms = [0; 0];
     let decided = decide(
         table.clock,
         budget,
@@ -254,6 +329,8 @@ pub fn plan_table(table: Table, budget: u64, order: &mut [u64], fates: &mut [u64
         table.hold_count,
         table.job_count,
         columns,
+        &mut no_order,
+        &mut no_rooms,
     );
     let places = decided.places;
     let by_job = decided.fates;
@@ -263,5 +340,42 @@ pub fn plan_table(table: Table, budget: u64, order: &mut [u64], fates: &mut [u64
         count: decided.count,
         speed: decided.speed.mhz,
         energy: decided.energy,
+    }
+}
+
+// The rooms of a valid table, with the budget beside it: the panel's answer, and both buffers whole.
+pub fn rooms_of(table: Table, budget: u64, turns: &mut [u64], rooms: &mut [u64]) -> Panel
+    requires { ⌜ Plannable table budget × (mostJobs ≤ length (now turns)) × (mostJobs ≤ length (now rooms)) ⌝ }
+    ensures { λ r. ⌜ tells r (now (turns .exit)) (now (rooms .exit)) ≡ leavesRooms (withBudget (recordsOf table) budget) (now (turns .entry)) (now (rooms .entry)) ⌝ }
+{
+    let columns = columns_of(table);
+    let speeds = table.speeds;
+    let holds = table.holds;
+    let mut order = [0; MOST_JOBS];
+    let decided = decide(
+        table.clock,
+        budget,
+        speeds,
+        table.speed_count,
+        holds,
+        table.hold_count,
+        table.job_count,
+        columns,
+        &mut order,
+        rooms,
+    );
+    let count = decided.turns;
+    put_order(turns, &order[..count], &columns.number);
+    clear_behind(rooms, count);
+    let terms = terms_of(
+        table.clock,
+        budget,
+        speeds,
+        table.speed_count,
+        table.job_count,
+    );
+    Panel::Told {
+        turns: count,
+        room: room_left(decided.cycles, terms),
     }
 }

@@ -6,6 +6,7 @@ use Prim.Native.Nat.{ℕ}
 use Rattle.rules.specs.declared.Allocated.{Allocated}
 use Rattle.rules.specs.declared.Decision.{Decision}
 use Rattle.rules.specs.declared.Field.{Field}
+use Rattle.rules.specs.declared.Panel.{Panel}
 use Rattle.rules.specs.declared.Reading.{Reading}
 use Rattle.rules.specs.declared.Refusal.{Refusal}
 use Rattle.rules.specs.declared.Supplied.{Supplied}
@@ -75,3 +76,8 @@ writtenSays (Written.Refused r line) = refused r line (0 ∷ [])
 abbrev pub decisionSays : Decision → Answer
 decisionSays (Decision.Plan count speed energy) = good (count ∷ speed ∷ energy ∷ [])
 decisionSays (Decision.Refused r line) = refused r line (0 ∷ 0 ∷ 0 ∷ [])
+
+-- The panel's answer: how many turns there were, the room that is left at the end. "Every refusal": no turn, and no room.
+abbrev pub panelSays : Panel → Answer
+panelSays (Panel.Told turns room) = good (turns ∷ room ∷ [])
+panelSays (Panel.Refused r line) = refused r line (0 ∷ 0 ∷ [])

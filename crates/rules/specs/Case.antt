@@ -14,6 +14,7 @@ use Rattle.rules.specs.Listing.{fateLine, finish, linesFor, listedWith, 
 use Rattle.rules.specs.Lists.{all, joined}
 use Rattle.rules.specs.Plan.{AfterPlanning, after, asksFor, atBudget, before, begin, awaited, chainOf, course, courseOf, cyclesOf, endsBy, endsInTime, endsLate, energyAt, equal, fateIn, fatesOf, follow, gives, goesBefore, goesRather, holderIn, inPlan, farEndFirst, inTime, insert, isOf, jobsOf, judge, lateIn, leavesAll, leavesOf, leavesPlan, left, less, leastEnergy, member, memberFound, memberNew, memberPlanned, members, numbersOf, onRing, ownFate, partOf, planFrom, planOf, planningOfUpTo, planningWith, qualifies, ratioOf, remove, runOrder, runsFrom, runsOf, same, speedFor, speedOr, noTurnYet, staysBelow, takenWithUpTo, leavesItsRing, leavesRing, timely, fateTold, tooDear, tooSmallUpTo, topOf, trial, turn, turnOf, turns, waitsFor, waitsLeft, waitsTimely, weightIn, ratioZero}
 use Rattle.rules.specs.Refusals.{AfterWriting, Before, Item, Judged, Taken, accept, acceptUpTo, accepted, added, andThen, asksOwn, atEnd, beyond, check, checkUpTo, criticalAfter, faultOfUpTo, holdItems, isHolder, itemsIn, itemShaped, itemsOfUpTo, jobItemsUpTo, judged, mayStand, nothing, outOfOrder, outOfRange, ownRequest, readUpTo, reading, readingUpTo, refusedAt, refusedFor, refusedOut, rises, speedItems, takeFromUpTo, taken, tableAnswerUpTo, tooManyUpTo, unknownJob, writing, written, writtenOf}
+use Rattle.rules.specs.Rooms.{AfterRooms, lastRoom, leavesRooms, leavesRoomsOf, leavesUntold, panelOfUpTo, panelWith, roomLeft, roomLine, roomLinesFor, roomLinesFrom, roomListingWith, roomsFrom, roomsOf, tabLine}
 use Rattle.rules.specs.TableText.{andMore, digitsOf, digitsWithin, fieldsOf, fieldsRecord, inRange, isBudget, isCost, isCycles, isDigit, isJobNumber, isMhz, isNumber, isRequest, isResource, isTime, isWorth, leadingZero, lineText, lined, linesOf, numberIn, numbersIn, ontoFirst, partedBy, recordOf, recordText, recordsOf, shapeOf, tableOfUpTo, textOf, valueFrom, withNumbers, fieldCount, letterRecord}
 use Rattle.rules.specs.declared.Hold.{Hold}
 use Rattle.rules.specs.declared.Job.{Job}
@@ -54,6 +55,14 @@ pub record Planning : Type 0 where
   pub part : List ℕ
   pub after : AfterPlanning
 
+-- a table, a budget beside it, a buffer for the turns and one for the rooms, and what the panel's call leaves (document 02, A2)
+pub record Telling : Type 0 where
+  pub table : Table
+  pub budget : ℕ
+  pub turns : List ℕ
+  pub rooms : List ℕ
+  pub after : AfterRooms
+
 pub data Case : Type 0 where
   -- a table text, and the listing that it gives
   lists : String → String → Case
@@ -67,6 +76,9 @@ pub data Case : Type 0 where
   reads : List Reads → Case
   writes : List Writing → Case
   plans : List Planning → Case
+  -- a text, a budget beside it, and the lines of the rooms
+  listsRooms : String → ℕ → String → Case
+  tells : List Telling → Case
 
 -- what the rules give for a case
 pub data Given : Type 0 where
@@ -75,6 +87,7 @@ pub data Given : Type 0 where
   numbered : List ℕ → Given
   wrote : List AfterWriting → Given
   planned : List AfterPlanning → Given
+  told : List AfterRooms → Given
 
 -- the line's number, and what stands before the next line
 unfoldable pub numberThen : Judged → Before → (Before → List ℕ) → List ℕ
@@ -118,9 +131,12 @@ sameAnswer a b = eqb (a .number) (b .number) && eqb (a .line) (b .line) && alike
 abbrev pub samePlanning : AfterPlanning → AfterPlanning → Bool
 samePlanning a b = sameAnswer (a .answer) (b .answer) && alike (a .order) (b .order) && alike (a .fates) (b .fates)
 
+abbrev pub sameTelling : AfterRooms → AfterRooms → Bool
+sameTelling a b = sameAnswer (a .answer) (b .answer) && alike (a .turns) (b .turns) && alike (a .rooms) (b .rooms)
+
 -- the rules give what the case wants; every rule opens here
 unfoldable pub right : Case → Bool
-unfolding bytes charAmong shown numberThen answersFrom judgedIn numberAndLine checkedIn placesOf readIn ontoFirst partedBy linesOf fieldsOf isDigit leadingZero isNumber valueFrom numberIn andMore numbersIn fieldCount letterRecord recordOf withNumbers fieldsRecord shapeOf isTime isBudget isMhz isCost isJobNumber isCycles isWorth isResource isRequest inRange recordsOf tableOfUpTo digitsWithin digitsOf lineText recordText lined textOf nothing itemShaped itemsIn outOfRange mayStand rises outOfOrder tooManyUpTo criticalAfter isHolder unknownJob asksOwn ownRequest faultOfUpTo added judged acceptUpTo atEnd andThen takeFromUpTo readUpTo beyond speedItems jobItemsUpTo holdItems itemsOfUpTo checkUpTo tableAnswerUpTo readingUpTo refusedOut written writtenOf writing topOf endsBy cyclesOf runsFrom runsOf endsInTime same less equal lateIn timely asksFor holderIn waitsFor follow awaited weightIn goesRather onRing leavesRing waitsTimely leavesItsRing left waitsLeft chainOf farEndFirst gives ratioOf turnOf before turns jobsOf isOf inPlan goesBefore insert remove staysBelow memberPlanned memberNew memberFound member members begin trial runOrder inTime endsLate tooDear judge ratioZero turn after course noTurnYet courseOf fateTold ownFate fateIn energyAt qualifies speedOr leastEnergy speedFor planFrom planOf numbersOf fatesOf leavesPlan partOf leavesAll leavesOf tooSmallUpTo planningOfUpTo atBudget takenWithUpTo askedInRange enough leastFrom allocated allocation roundedUp finish planLine orderLine unplanned fateLine planLines linesFor listingOf listedWith
+unfolding bytes charAmong shown numberThen answersFrom judgedIn numberAndLine checkedIn placesOf readIn ontoFirst partedBy linesOf fieldsOf isDigit leadingZero isNumber valueFrom numberIn andMore numbersIn fieldCount letterRecord recordOf withNumbers fieldsRecord shapeOf isTime isBudget isMhz isCost isJobNumber isCycles isWorth isResource isRequest inRange recordsOf tableOfUpTo digitsWithin digitsOf lineText recordText lined textOf nothing itemShaped itemsIn outOfRange mayStand rises outOfOrder tooManyUpTo criticalAfter isHolder unknownJob asksOwn ownRequest faultOfUpTo added judged acceptUpTo atEnd andThen takeFromUpTo readUpTo beyond speedItems jobItemsUpTo holdItems itemsOfUpTo checkUpTo tableAnswerUpTo readingUpTo refusedOut written writtenOf writing topOf endsBy cyclesOf runsFrom runsOf endsInTime same less equal lateIn timely asksFor holderIn waitsFor follow awaited weightIn goesRather onRing leavesRing waitsTimely leavesItsRing left waitsLeft chainOf farEndFirst gives ratioOf turnOf before turns jobsOf isOf inPlan goesBefore insert remove staysBelow memberPlanned memberNew memberFound member members begin trial runOrder inTime endsLate tooDear judge ratioZero turn after course noTurnYet courseOf fateTold ownFate fateIn energyAt qualifies speedOr leastEnergy speedFor planFrom planOf numbersOf fatesOf leavesPlan partOf leavesAll leavesOf tooSmallUpTo planningOfUpTo atBudget takenWithUpTo askedInRange enough leastFrom allocated allocation roundedUp finish planLine orderLine unplanned fateLine planLines linesFor listingOf listedWith roomLeft roomsFrom roomsOf lastRoom leavesRooms leavesUntold leavesRoomsOf panelOfUpTo tabLine roomLine roomLinesFrom roomLinesFor roomListingWith
 right (lists text want) = alike (listingOf (bytes text)) (bytes want)
 right (listsWith text budget want) = alike (listedWith (bytes text) budget) (bytes want)
 right (allocates mean variance assurance want) = sameAnswer (allocation mean variance assurance) want
@@ -134,6 +150,8 @@ right (plans ps) =
     (λ (p : Planning).
     let a = planningWith (p .table) (p .budget) (p .order) (p .fates) in samePlanning a (p .after) && alike (partOf a) (p .part))
     ps
+right (listsRooms text budget want) = alike (roomListingWith (bytes text) budget) (bytes want)
+right (tells ts) = all (λ (t : Telling). sameTelling (panelWith (t .table) (t .budget) (t .turns) (t .rooms)) (t .after)) ts
 
 unfoldable pub given : Case → Given
 given (lists text want) = listed (shown (listingOf (bytes text)))
@@ -144,6 +162,8 @@ given (checks cs) = numbered (joined checkedIn cs)
 given (reads rs) = numbered (joined readIn rs)
 given (writes ws) = wrote (map (λ (w : Writing). writing (w .table) (bytes (w .out))) ws)
 given (plans ps) = planned (map (λ (p : Planning). planningWith (p .table) (p .budget) (p .order) (p .fates)) ps)
+given (listsRooms text budget want) = listed (shown (roomListingWith (bytes text) budget))
+given (tells ts) = told (map (λ (t : Telling). panelWith (t .table) (t .budget) (t .turns) (t .rooms)) ts)
 
 -- what the rules give where it is not what the case wants
 unfoldable pub wrong : Case → Option Given

@@ -4,14 +4,16 @@ use mathlib.Core.List.{List, [], _∷_, _++_, map}
 use Prim.Native.Nat.{ℕ, zero, suc, _+_, _-_, _*_}
 use Prim.Native.String.{String}
 use lib.ListN.{replicate}
-use Rattle.rules.specs.Answers.{decisionSays, writtenSays}
+use Rattle.rules.specs.Answers.{decisionSays, panelSays, writtenSays}
 use Rattle.rules.specs.Bytes.{bytes}
-use Rattle.rules.specs.Case.{AllRight, Case, Checking, Judging, Planning, checks, judges, lists, listsWith, plans, reads, writes, wrong}
+use Rattle.rules.specs.Case.{AllRight, Case, Checking, Judging, Planning, Telling, checks, judges, lists, listsRooms, listsWith, plans, reads, tells, writes, wrong}
 use Rattle.rules.specs.Refusals.{reading}
+use Rattle.rules.specs.Sheet.{caseS}
 use Rattle.rules.specs.TableText.{Record, Records, mostBudget, mostJobs, noRecords, recordText, tableOf, tableWithBudget, withClock, withCounts, withHolds, withJobs, withSpeeds}
 use Rattle.rules.specs.declared.Decision.{Decision}
 use Rattle.rules.specs.declared.Job.{Job}
 use Rattle.rules.specs.declared.Hold.{Hold}
+use Rattle.rules.specs.declared.Panel.{Panel}
 use Rattle.rules.specs.declared.Refusal.{Refusal}
 use Rattle.rules.specs.declared.Speed.{Speed}
 use Rattle.rules.specs.declared.Table.{Table}
@@ -61,7 +63,17 @@ checking t n l = record { table = t; number = n; line = l }
 abbrev five : String
 five = "T\t700\t5000\nF\t500\t12\nF\t800\t9\nF\t1000\t10\nJ\t1\t400\t1\t900\t900\t4\nJ\t2\t300\t10\t500\t1000\t2\nJ\t3\t500\t5\t1000\t1200\t0\nJ\t4\t200\t5\t3000\t3000\t2\nJ\t5\t300\t40\t3000\t3200\t0\nH\t1\t4\nH\t2\t5\nH\t3\t1\n"
 
--- its table, with a budget in the T
+-- two chains that give nothing; members that lower the limit and are moved; a job that comes in after its own turn failed
+abbrev givesNothing : String
+givesNothing = "T\t100\t10000\nF\t500\t12\nF\t800\t9\nF\t1000\t10\nJ\t1\t500\t20\t0\t800\t3\nJ\t2\t400\t1\t0\t200\t3\nJ\t3\t300\t0\t200\t1200\t2\nH\t1\t3\nH\t2\t2\nH\t3\t3\nH\t4\t3\n"
+
+abbrev memberMoved : String
+memberMoved = "T\t700\t12000\nF\t500\t7\nF\t1000\t10\nJ\t1\t200\t0\t700\t1700\t4\nJ\t2\t100\t20\t2600\t2800\t1\nJ\t3\t200\t1\t100\t1100\t4\nJ\t4\t100\t2\t1400\t1400\t2\nJ\t5\t100\t20\t900\t900\t0\nH\t1\t3\nH\t2\t3\nH\t3\t1\nH\t4\t5\n"
+
+abbrev cameInLater : String
+cameInLater = "T\t1000\t10000\nF\t500\t12\nF\t800\t9\nF\t1000\t10\nJ\t1\t100\t5\t2200\t3200\t0\nJ\t2\t500\t10\t1600\t1600\t4\nJ\t3\t100\t5\t1300\t2300\t1\nJ\t4\t300\t0\t1000\t2000\t3\nH\t1\t1\nH\t2\t1\nH\t3\t2\n"
+
+-- the table of `five`, with a budget in the T
 abbrev fiveAt : ℕ → Table
 fiveAt budget = tableWithBudget (reading (bytes five) .table) budget
 
@@ -76,6 +88,31 @@ turnedAway t budget orders fates why line = record {
   after = record { answer = decisionSays (Decision.Refused why line); order = replicate orders 8; fates = replicate fates 9 };
 }
 
+-- what the panel's call leaves of two buffers of so many places: some turns' jobs and rooms, and 0 behind them
+abbrev told : Table → ℕ → List ℕ → List ℕ → ℕ → ℕ → Telling
+told t budget turns rooms count room = record {
+  table = t;
+  budget = budget;
+  turns = replicate mostJobs 8;
+  rooms = replicate (mostJobs + 2) 9;
+  after =
+      record {
+        answer = panelSays (Panel.Told count room);
+        turns = turns ++ replicate (mostJobs - count) 0;
+        rooms = rooms ++ replicate (mostJobs + 2 - count) 0;
+      };
+}
+
+-- a table and a budget of which it tells nothing, and leaves both buffers as they are
+abbrev untold : Table → ℕ → ℕ → ℕ → Refusal → ℕ → Telling
+untold t budget turns rooms why line = record {
+  table = t;
+  budget = budget;
+  turns = replicate turns 8;
+  rooms = replicate rooms 9;
+  after = record { answer = panelSays (Panel.Refused why line); turns = replicate turns 8; rooms = replicate rooms 9 };
+}
+
 unfoldable pub cases : List Case
 cases =
     -- Clock above 0. Job 1 is late alone; job 2's trial moves 5 and is dropped for time, job 3's for the budget; 500 MHz
@@ -86,17 +123,17 @@ cases =
     ∷ lists "T\t1000\t15000\nF\t500\t7\nF\t1000\t10\nJ\t1\t300\t20\t1900\t2100\t4\nJ\t2\t500\t0\t1600\t2600\t2\nJ\t3\t300\t10\t2800\t3000\t1\nJ\t4\t300\t10\t1200\t2200\t2\nH\t1\t1\nH\t2\t3\nH\t3\t2\nH\t4\t4\n"
     "P\t1000\t11000\t3\nO\t1\t1300\nO\t3\t1600\nO\t2\t2100\nX\t4\t3\n"
     -- Job 1 ends late after 3, so that its chain gives nothing. The late job 2 holds what 3 asks for: 3 waits for nobody.
-    ∷ lists "T\t100\t10000\nF\t500\t12\nF\t800\t9\nF\t1000\t10\nJ\t1\t500\t20\t0\t800\t3\nJ\t2\t400\t1\t0\t200\t3\nJ\t3\t300\t0\t200\t1200\t2\nH\t1\t3\nH\t2\t2\nH\t3\t3\nH\t4\t3\n"
+    ∷ lists givesNothing
     "P\t500\t0\t0\nX\t1\t4\nX\t2\t2\nX\t3\t4\n"
     -- A ring of 1 and 3: 1 has more worth and far more cycles, and goes. Then 2 and 3 have equal ratios. 500 MHz would do and
     -- costs more.
     ∷ lists "T\t1000\t8000\nF\t500\t12\nF\t800\t9\nF\t1000\t10\nJ\t1\t500\t5\t800000\t800000\t2\nJ\t2\t400\t200\t2900\t3100\t3\nJ\t3\t2\t1\t2900\t2900\t1\nH\t1\t1\nH\t2\t3\n"
     "P\t800\t3618\t2\nO\t3\t1003\nO\t2\t1503\nX\t1\t3\n"
     -- A new member lowers the limit to its critical time; a member that is moved takes the limit as its key.
-    ∷ lists "T\t700\t12000\nF\t500\t7\nF\t1000\t10\nJ\t1\t200\t0\t700\t1700\t4\nJ\t2\t100\t20\t2600\t2800\t1\nJ\t3\t200\t1\t100\t1100\t4\nJ\t4\t100\t2\t1400\t1400\t2\nJ\t5\t100\t20\t900\t900\t0\nH\t1\t3\nH\t2\t3\nH\t3\t1\nH\t4\t5\n"
+    ∷ lists memberMoved
     "P\t1000\t7000\t5\nO\t5\t800\nO\t3\t1000\nO\t1\t1200\nO\t4\t1300\nO\t2\t1400\n"
     -- A job whose own turn failed comes in with another's chain: planned.
-    ∷ lists "T\t1000\t10000\nF\t500\t12\nF\t800\t9\nF\t1000\t10\nJ\t1\t100\t5\t2200\t3200\t0\nJ\t2\t500\t10\t1600\t1600\t4\nJ\t3\t100\t5\t1300\t2300\t1\nJ\t4\t300\t0\t1000\t2000\t3\nH\t1\t1\nH\t2\t1\nH\t3\t2\n"
+    ∷ lists cameInLater
     "P\t1000\t10000\t4\nO\t2\t1500\nO\t4\t1800\nO\t1\t1900\nO\t3\t2000\n"
     -- A member that stays lowers the limit for the next.
     ∷ lists "T\t700\t1000000\nF\t500\t12\nF\t800\t9\nF\t1000\t10\nJ\t1\t200\t5\t2600\t3100\t0\nJ\t2\t300\t40\t1700\t1700\t1\nJ\t3\t500\t2\t2300\t2800\t3\nJ\t4\t400\t20\t1700\t1900\t0\nJ\t5\t100\t20\t1600\t1600\t0\nH\t1\t1\nH\t2\t3\nH\t3\t2\nH\t4\t2\n"
@@ -229,6 +266,25 @@ cases =
     ∷ listsWith five (mostBudget + 1) "R\t2\t1\n"
     ∷ listsWith "T\t0\t0\nF\t1\t0\n" (mostBudget + 1) "R\t2\t2\n"
     ∷ listsWith "T\t0\t1000000000000001\nF\t1\t1\n" 0 "R\t2\t1\n"
+    -- The rooms, at the cost of the last F, which is neither the first nor the least. Jobs 5 and 4 are taken in their own turns, 2 ends
+    -- late and takes nothing, and 3 is too dear but for a budget of 10001. A budget beside counts, also where the table's own is more.
+    ∷ tells
+    (told (fiveAt mostBudget) 5000 (5 ∷ 4 ∷ 2 ∷ 3 ∷ []) (2000 ∷ 0 ∷ 0 ∷ 0 ∷ []) 4 0
+    ∷ told (fiveAt 5000) 10001 (5 ∷ 4 ∷ 2 ∷ 3 ∷ []) (7001 ∷ 5001 ∷ 5001 ∷ 1 ∷ []) 4 1
+    ∷ told (fiveAt 5000) 0 (5 ∷ 4 ∷ 2 ∷ 3 ∷ []) (0 ∷ 0 ∷ 0 ∷ 0 ∷ []) 4 0
+    ∷ told (counted 1 0 0 1 0 0) 7 [] [] 0 7
+    ∷ untold (fiveAt 5000) (mostBudget + 1) (mostJobs - 1) mostJobs Refusal.Room 0
+    ∷ untold (fiveAt 5000) (mostBudget + 1) mostJobs (mostJobs - 1) Refusal.Room 0
+    ∷ untold (counted 0 0 0 0 0 0) (mostBudget + 1) mostJobs mostJobs Refusal.Range 1
+    ∷ untold (counted 0 0 0 0 0 0) mostBudget mostJobs mostJobs Refusal.Order 2
+    ∷ [])
+    -- The lines of the rooms. Job 3 came in with 2 and is passed over; 4 gets a 5 and not a 6, though no room is left either; and 5,
+    -- which is late alone, has no turn. Then members that are moved, each counted once; chains of ratio 0; and a job whose own turn gave 5.
+    ∷ listsRooms caseS 2500000000 "1\t2\t1000000000\t1\n2\t1\t0\t1\n3\t3\t0\t1\n4\t4\t0\t5\n"
+    ∷ listsRooms memberMoved 12000 "1\t5\t11000\t1\n2\t2\t8000\t1\n3\t3\t8000\t1\n4\t1\t6000\t1\n5\t4\t5000\t1\n"
+    ∷ listsRooms givesNothing 10000 "1\t1\t10000\t4\n2\t3\t10000\t4\n"
+    ∷ listsRooms cameInLater 10500 "1\t1\t9500\t1\n2\t3\t8500\t1\n3\t2\t8500\t5\n4\t4\t500\t1\n"
+    ∷ listsRooms five (mostBudget + 1) "R\t2\t1\n"
     -- The reader's table: 0 in every unused place; refused, 0 in every place.
     ∷ reads
     (record {
@@ -245,4 +301,4 @@ cases =
 
 pub cases-right : AllRight cases
 unfolding cases wrong
-cases-right = (refl, (refl, (refl, (refl, (refl, (refl, (refl, (refl, (refl, (refl, (refl, (refl, (refl, (refl, (refl, (refl, (refl, (refl, tt))))))))))))))))))
+cases-right = (refl, (refl, (refl, (refl, (refl, (refl, (refl, (refl, (refl, (refl, (refl, (refl, (refl, (refl, (refl, (refl, (refl, (refl, (refl, (refl, (refl, (refl, (refl, (refl, tt))))))))))))))))))))))))

@@ -7,6 +7,7 @@ pub mod Plan
 pub mod Cycles
 pub mod Costs
 pub mod Listing
+pub mod Rooms
 pub mod Bytes
 pub mod Case
 pub mod Sheet

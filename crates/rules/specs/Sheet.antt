@@ -7,7 +7,7 @@ use Rattle.rules.specs.Answers.{good, refused}
 use Rattle.rules.specs.Case.{AllRight, Case, allocates, lists, listsWith, wrong}
 use Rattle.rules.specs.declared.Refusal.{Refusal}
 
-abbrev caseS : String
+abbrev pub caseS : String
 caseS = "T\t0\t2500000000\nF\t500\t700000\nF\t1000\t1000000\nJ\t1\t1000\t50\t3000\t3000\t0\nJ\t2\t1000\t90\t2000\t2000\t1\nJ\t3\t500\t10\t5000\t5000\t0\nJ\t4\t2000\t40\t4000\t4000\t0\nJ\t5\t3000\t1\t2500\t2500\t0\nH\t1\t3\n"
 
 -- one job of 1000 cycles, termination 2000, budget 10^15

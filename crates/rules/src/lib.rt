@@ -156,3 +156,9 @@ pub enum Decision {
     },
     Refused(Refusal, u64),
 }
+
+// The panel's answer: how many turns there were and the room that is left at the end, or the refusal and its line.
+pub enum Panel {
+    Told { turns: usize, room: u64 },
+    Refused(Refusal, u64),
+}

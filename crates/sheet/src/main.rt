@@ -7,6 +7,7 @@
 //   each with the whole of both marked buffers afterwards.
 // - `knob`: the text read once, and its table planned with several budgets beside it.
 // - `many`: the listing with several budgets beside the text.
+// - `each`: the text read once, and `rooms` of its table with several budgets beside it: the room after each turn.
 // - `room`: `plan_into`, `list` and `write` with as many places as they need, and with one fewer.
 // - `text`: the table read and written again.
 // - `bent`: the table with its records or counts made wrong, written, and planned with a good budget beside it.
@@ -24,6 +25,7 @@ mod leaves;
 mod plan;
 mod report;
 mod room;
+mod turns;
 
 use report::put;
 
@@ -62,6 +64,7 @@ fn run(letter: u8, text: &[u8]) {
         b'k' => plan::turn_the_knob(text),
         b'm' => list_many(text),
         b'r' => room::each_call(text),
+        b'e' => turns::after_each(text),
         b't' => again::read_and_write(text),
         b'b' => bent::each_way(text),
         b'h' => head::first_line(text),

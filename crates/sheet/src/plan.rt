@@ -11,7 +11,7 @@ ghost use mathlib.Core.Path.{_≡_};
 ghost use denote.Ref.{ptr};
 ghost use Rattle.rules.specs.Plan.{partOf, planningWith};
 
-const MARK: u64 = 7;
+pub(crate) const MARK: u64 = 7;
 
 pub(crate) const PLACES: usize = 70;
 

@@ -1,10 +1,11 @@
 // Step 9 of "From jobs to a plan", by document 02's A1: the speed that a plan is run at, and the energy.
 use columns::Terms;
 use entries::in_time;
-use entries::total_cycles;
 use rules::MOST_JOBS;
 use rules::MOST_SPEEDS;
 use rules::Speed;
+ghost use mathlib.Core.Path.{_≡_};
+ghost use Rattle.entries.specs.Promises.{cyclesAt};
 ghost use Rattle.speeds.specs.Promises.{CheapestFrom, Choosable, ChosenSpeed, EnergiesInRange, FirstInTime};
 
 // The speed of a plan, and its energy.
@@ -65,16 +66,17 @@ fn cheapest_from(
 }
 
 // Step 9: "among the speeds that qualify". Those in time are the last ones; if the cheapest of them is over the budget, all are.
-// "The energy is that product."
+// "The energy is that product", of all cycles, which the plan record has.
 pub fn choose_speed<'a>(
     speeds: [Speed; MOST_SPEEDS],
     speed_count: usize,
     places: &[u64],
+    all_cycles: u64,
     cycles: &'a [u64; MOST_JOBS],
     termination: &'a [u64; MOST_JOBS],
     terms: Terms,
 ) -> Chosen
-    requires { ⌜ Choosable speeds «speed_count» (now places) (now cycles) (now termination) terms ⌝ }
+    requires { ⌜ Choosable speeds «speed_count» (now places) (now cycles) (now termination) terms × («all_cycles» ≡ cyclesAt (now cycles) (now places)) ⌝ }
     ensures { λ r. ⌜ ChosenSpeed speeds «speed_count» (now (places .entry)) (now (cycles .entry)) (now (termination .entry)) terms r ⌝ }
 {
     let none = Chosen {
@@ -85,10 +87,9 @@ pub fn choose_speed<'a>(
     if first == speed_count {
         return none;
     }
-    let total = total_cycles(places, cycles);
-    let cheapest = cheapest_from(speeds, speed_count, first, total);
+    let cheapest = cheapest_from(speeds, speed_count, first, all_cycles);
     let speed = speeds[cheapest];
-    let energy = total * speed.cost;
+    let energy = all_cycles * speed.cost;
     if terms.budget < energy {
         return none;
     }

@@ -8,6 +8,7 @@ pub mod Entries
 mod Trials
 pub mod RunOrder
 pub mod Course
+pub mod Rooms
 mod Totals
 pub mod Faster
 pub mod Qualified

@@ -101,7 +101,7 @@ module _ (out : ℕ → Bool) where
     unfolding awaited
     awaited-alone j f = same-walk (waitsLeft t) (waitsLeft (onlyOutside out t)) waits-left left-next mostHolds j f
 
-  fit-parted : (t : Records) → Fit t → Parted out t
+  pub fit-parted : (t : Records) → Fit t → Parted out t
   fit-parted t f =
       record {
         left-same = left-alone t (f .asks);
@@ -130,7 +130,7 @@ module _ (out : ℕ → Bool) where
 
 -- Demand 3 as it is demanded, for a set of job numbers.
 module _ (set : ℕ → Bool) where
-  fits : (t : Records) → Valid t → NoneAsksInside set t → NonePlanned set t → Fit (outOf set) t
+  pub fits : (t : Records) → Valid t → NoneAsksInside set t → NonePlanned set t → Fit (outOf set) t
   unfolding planOf planFrom jobsOf
   fits t v a n =
       record {
@@ -140,7 +140,7 @@ module _ (set : ℕ → Bool) where
       }
 
   module _ (budget : ℕ) (in-range : isBudget budget ≡ true) (a b : Records) where
-    same-outside : Agree set a b
+    pub same-outside : Agree set a b
         → onlyOutside (outOf set) (withBudget a budget) ≡ onlyOutside (outOf set) (withBudget b budget)
     unfolding onlyOutside
     same-outside g = rw (g .clock, g .speeds, g .jobs, g .holds)

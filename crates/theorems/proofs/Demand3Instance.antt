@@ -9,10 +9,12 @@ use Prim.Native.Nat.{ℕ}
 use lib.Dec.{leb}
 use Rattle.laws.proofs.Choices.{clash}
 use Rattle.theorems.proofs.Demand3.{unplanned-do-not-matter}
+use Rattle.theorems.proofs.Demand3Rooms.{unplanned-leave-the-rooms}
 use Rattle.laws.proofs.Elements.{each-too}
 use Rattle.laws.proofs.Lookups.{all-each}
 use Rattle.grammar.proofs.Tables.{hold, job, read-valid, table, twoSpeeds}
-use Rattle.theorems.specs.Demand3.{Alike, NoneAsksInside, NonePlanned, outOf}
+use Rattle.theorems.specs.Demand3.{Agree, Alike, NoneAsksInside, NonePlanned, outOf}
+use Rattle.theorems.specs.Rooms.{RoomsAlike}
 use Rattle.rules.specs.Case.{right}
 use Rattle.rules.specs.Lists.{all}
 use Rattle.rules.specs.Plan.{asksFor, numbersOf, planOf, waitsLeft}
@@ -103,10 +105,16 @@ in-range : isBudget 2500000000 ≡ true
 unfolding right
 in-range = refl
 
+agree : Agree from4 a b
+agree = record { clock = refl; speeds = refl; jobs = refl; holds = refl }
+
 pub alike-plans : Alike (outOf from4) (beside a) (beside b)
 alike-plans =
-    unplanned-do-not-matter from4 2500000000 in-range a b a-valid b-valid
-    (record { clock = refl; speeds = refl; jobs = refl; holds = refl }) a-asks b-asks a-plan b-plan
+    unplanned-do-not-matter from4 2500000000 in-range a b a-valid b-valid agree a-asks b-asks a-plan b-plan
+
+pub alike-rooms : RoomsAlike (outOf from4) (beside a) (beside b)
+alike-rooms =
+    unplanned-leave-the-rooms from4 2500000000 in-range a b a-valid b-valid agree a-asks b-asks a-plan b-plan
 
 -- with the second's own budget it would plan nothing
 pub own-budget-plans-nothing : planOf b .jobs ≡ []

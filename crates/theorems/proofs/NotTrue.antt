@@ -1,12 +1,13 @@
 -- What is not true of the rules, each with a table that shows it. Nobody may rely on these, and no promise says them. antt
 -- computes the plans; each table is one that the reader takes. Assumes nothing.
 use mathlib.Core.Bool.{true, false}
-use mathlib.Core.List.{[], _∷_}
+use mathlib.Core.List.{[], _∷_, map}
 use mathlib.Core.Path.{_≡_, refl}
 use Prim.Native.Nat.{ℕ}
 use Rattle.grammar.proofs.Tables.{hold, job, read-valid, speed, table}
 use Rattle.rules.specs.Case.{right}
 use Rattle.rules.specs.Plan.{Plan, courseOf, endsLate, fatesOf, numbersOf, planOf, qualifies, tooDear, trial, turnOf}
+use Rattle.rules.specs.Rooms.{TurnRoom, lastRoom, roomsOf}
 use Rattle.rules.specs.TableText.{Records, withBudget}
 use Rattle.rules.specs.Valid.{Valid}
 
@@ -79,3 +80,30 @@ worthless-valid = read-valid worthless refl
 pub worthless-planned : (numbersOf (planOf worthless .jobs) ≡ 1 ∷ 2 ∷ []) × (planOf worthless .energy ≡ 100)
 unfolding right
 worthless-planned = (refl, refl)
+
+-- NOT TRUE: a job whose chain fits the room at top cost is planned. Job 2 alone would take 300 of the 700 that job 1 leaves, and
+-- would end in time; behind job 1, which is planned, it would not, and gets a 5.
+abbrev crowded : Records
+crowded = table 0 1000 (speed 1000 10 ∷ []) (job 1 30 90 40 40 0 ∷ job 2 30 60 40 40 0 ∷ []) []
+
+pub crowded-valid : Valid crowded
+unfolding right
+crowded-valid = read-valid crowded refl
+
+pub room-but-no-time : (map (λ (r : TurnRoom). r .room) (roomsOf crowded) ≡ 700 ∷ 700 ∷ [])
+    × (fatesOf (planOf crowded .fates) ≡ 1 ∷ 5 ∷ [])
+unfolding right
+room-but-no-time = (refl, refl)
+
+-- NOT TRUE: the last room and the plan's energy make up the budget. The room is reckoned at top cost, 50 for job 1, and the energy
+-- at the chosen speed's, 25: 250 and 25 of 300.
+abbrev slower : Records
+slower = table 0 300 (speed 500 5 ∷ speed 1000 10 ∷ []) (job 1 5 90 50 70 0 ∷ []) []
+
+pub slower-valid : Valid slower
+unfolding right
+slower-valid = read-valid slower refl
+
+pub room-and-energy-are-less : (lastRoom slower ≡ 250) × (planOf slower .energy ≡ 25)
+unfolding right
+room-and-energy-are-less = (refl, refl)

@@ -44,7 +44,7 @@ module _ (out : ℕ → Bool) where
 
   module _ (t : Records) where
     -- a turn of the set changes no plan that ends without the set
-    inside-idle : (i : Turn) (is : List Turn) (c : Course) → AllOut (course t is (after t i c) .plan) → outerTurn i ≡ false
+    pub inside-idle : (i : Turn) (is : List Turn) (c : Course) → AllOut (course t is (after t i c) .plan) → outerTurn i ≡ false
         → turn t i (c .plan) .plan ≡ c .plan
     inside-idle i is c a n =
         turn-own t i (c .plan)
@@ -120,7 +120,7 @@ module _ (out : ℕ → Bool) where
       unfolding turnOf chainOf
       turn-same j e = rw (ratio-same (j ∷ awaited (waitsLeft (onlyOutside t)) j)) (rw e)
 
-      turns-same : turns (onlyOutside t) ≡ keep outerTurn (turns t)
+      pub turns-same : turns (onlyOutside t) ≡ keep outerTurn (turns t)
       unfolding turns turnOf
       turns-same =
           rw (parted .left-same)

@@ -1,15 +1,15 @@
--- The twelve theorems for testers, of every valid table's plan, in one place. Each is proved where its reason is: Speeds (1, 2
--- and 11), Planned (3, 4), Fates (4), Rings (5), Overtaken (6, 7, 8), NotEmpty (9), Again (10), SpeedRules (11), and the twelfth
--- here. What is planned are a table's records with the budget beside it (`promises-beside`), so that "the budget" is that one.
--- Assumes nothing.
-use mathlib.Core.Bool.{Bool, true}
-use mathlib.Core.List.{List, [], _∷_, cons≢nil, map}
-use mathlib.Core.Logic.{_⊎_}
+-- The thirteen theorems for testers, of every valid table's plan, in one place. Each is proved where its reason is: Speeds (1, 2
+-- and 11), Planned (3, 4), Fates (4), Rings (5), Overtaken (6, 7, 8), NotEmpty (9), Again (10), SpeedRules (11), Rooms, Added and
+-- steps/proofs/Rooms (13), and the twelfth here. What is planned are a table's records with the budget beside it (`promises-beside`), so that "the budget" is that
+-- one. Assumes nothing.
+use mathlib.Core.Bool.{Bool, true, false}
+use mathlib.Core.List.{List, [], _∷_, cons≢nil, map, reverse}
+use mathlib.Core.Logic.{_⊎_, _↔_}
 use mathlib.Core.Option.{none}
 use mathlib.Core.Path.{_≡_, refl}
 use Prim.Native.Nat.{ℕ, _+_, _*_, _≤_, _<_}
 use lib.Dec.{eqb}
-use lib.ListN.{getD, length}
+use lib.ListN.{getD, length, take}
 use Rattle.theorems.proofs.Again.{again, all-planned-again, planned, planned-again}
 use Rattle.grammar.proofs.BudgetBeside.{taken-beside}
 use Rattle.steps.proofs.Course.{AtEachTurn, at-each-turn-of}
@@ -19,16 +19,20 @@ use Rattle.theorems.proofs.NotEmpty.{not-empty, nothing-requested}
 use Rattle.theorems.proofs.Outside.{Alone}
 use Rattle.theorems.proofs.OutsideValid.{outside-valid}
 use Rattle.steps.proofs.Overtaken.{TakesIn, lacking, only-five-overtaken, plan-grows, planned-stays, six-stays-true}
-use Rattle.laws.specs.Pairs.{Distinct}
+use Rattle.laws.specs.Pairs.{Distinct, Pairwise}
 use Rattle.steps.proofs.Planned.{HoldersBefore, each-fated, holders-before, one-exactly-for-planned, plan-counts-ones, planned-once, sound-holders-before}
 use Rattle.steps.proofs.Rings.{OnRing, Reaches, chain-at-most-33, last-waits-for-nobody, no-ring-left, one-leaves-each-ring, taken-only-from-rings}
+use Rattle.theorems.proofs.Rooms.{accepted-takes-what-it-adds, always-makes-budget, each-trial-adds, else-the-same, falls-where-accepted, five-whatever-room, last-room-is-the-last-row, last-room-makes-budget, room-before-all, rooms-never-rise, rows-tell-own-fates, six-exactly-by-room}
+use Rattle.steps.proofs.Rooms.{one-row-each-turn, room-after-turn}
 use Rattle.steps.proofs.Speeds.{SpeedChosen, energy-at-most-top, energy-in-budget, finish-in-time, no-lower-as-little, none-has-less, nothing-planned, plan-speed, planned-end-in-time, top-cost-in-budget}
 use Rattle.theorems.proofs.SpeedRules.{SinceVersionFour, by-the-rule, rule-leaves-plan-and-fates, since-version-four}
+use Rattle.theorems.specs.Rooms.{Accepted, ComesToTrial, MakesBudget, addedBy, fatedIn, roomsAlong}
 use Rattle.theorems.specs.SpeedRules.{SpeedRule, planBy}
 use Rattle.rules.specs.Listing.{finish}
 use Rattle.rules.specs.Lists.{Each, keep, lastOr}
-use Rattle.rules.specs.Plan.{Entry, Fated, chainOf, courseOf, gives, goesRather, onRing, ratioOf, takenWith, turnOf, weightIn, cyclesOf, endsInTime, energyAt, fateBudget, fatePlanned, fateTime, fatesOf, inPlan, inTime, jobsOf, lateIn, leavesItsRing, leavesRing, left, numbersOf, planFrom, planOf, runsOf, noTurnYet, speedFor, timely, topOf, turn, turns, waitsLeft, waitsTimely, runOrder}
+use Rattle.rules.specs.Plan.{Entry, Fated, Turn, chainOf, course, courseOf, gives, goesRather, onRing, ratioOf, takenWith, turnOf, weightIn, cyclesOf, endsInTime, endsLate, energyAt, fateBudget, fatePlanned, fateTime, fatesOf, inPlan, inTime, jobsOf, lateIn, leavesItsRing, leavesRing, left, numbersOf, planFrom, planOf, runsOf, noTurnYet, speedFor, timely, topOf, trial, turn, turns, waitsLeft, waitsTimely, runOrder}
 use Rattle.rules.specs.Refusals.{taken}
+use Rattle.rules.specs.Rooms.{TurnRoom, lastRoom, roomLeft, roomsOf}
 use Rattle.rules.specs.TableText.{Records, noJob, noSpeed, withBudget}
 use Rattle.rules.specs.Valid.{Valid}
 use Rattle.rules.specs.declared.Job.{Job}
@@ -107,6 +111,36 @@ pub record Promises (t : Records) : Type 0 where
   pub any-budget-late : (budget : ℕ) (j : Job) → lateIn (withBudget t budget) j ≡ lateIn t j
   pub any-budget-rings : (budget : ℕ) (j : Job) → leavesItsRing (withBudget t budget) j ≡ leavesItsRing t j
   pub any-budget-turns : (budget : ℕ) → turns (withBudget t budget) ≡ turns t
+  -- 13. No plan on the way is over the budget at top cost: the room that it leaves and its cycles at top cost make up the budget.
+  -- Before the first turn the room is the whole budget. It falls exactly where a trial is accepted, by what the trial adds, at top
+  -- cost, and is the same after any other turn. The last room is what the plan leaves of the budget at top cost, and the last row's.
+  -- The rows are the turns in their order, each with the room after it and the fate that its own turn gave. A trial adds the cycles of its job and of those
+  -- of its chain that are not in the plan. If it ends in time, it gets a 6 exactly where these, at top cost, exceed the room before
+  -- it; if not, a 5 at any room.
+  pub room-makes-budget : AtEachTurn t (λ i c. MakesBudget t (c .plan) × MakesBudget t (turn t i (c .plan) .plan)) (turns t) noTurnYet
+  pub room-at-first : roomLeft t (noTurnYet .plan) ≡ t .budget
+  pub room-falls-exactly-if-accepted : AtEachTurn t (λ i c.
+      (roomLeft t (turn t i (c .plan) .plan) < roomLeft t (c .plan)) ↔ Accepted t i (c .plan)) (turns t) noTurnYet
+  pub room-falls-by-added : AtEachTurn t (λ i c. Accepted t i (c .plan)
+      → roomLeft t (turn t i (c .plan) .plan) + cyclesOf (addedBy i (c .plan)) * topOf t .cost ≡ roomLeft t (c .plan))
+      (turns t) noTurnYet
+  pub room-else-the-same : AtEachTurn t (λ i c. (Accepted t i (c .plan) → ⊥)
+      → roomLeft t (turn t i (c .plan) .plan) ≡ roomLeft t (c .plan)) (turns t) noTurnYet
+  pub rooms-fall-or-stay : Pairwise (λ earlier later. later ≤ earlier) (t .budget ∷ roomsAlong t)
+  pub last-room-and-top-cost : lastRoom t + energyAt (topOf t) (planOf t .jobs) ≡ t .budget
+  pub last-room-of-rows : lastRoom t ≡ lastOr (t .budget) (roomsAlong t)
+  pub row-for-each-turn : map (λ (r : TurnRoom). r .job) (roomsOf t) ≡ map (λ (i : Turn). i .job) (turns t)
+  pub room-in-each-row : (k : ℕ) → k < length (turns t)
+      → getD (roomsAlong t) k 0 ≡ roomLeft t (course t (take (k + 1) (turns t)) noTurnYet .plan)
+  pub rows-in-own-fates : courseOf t .ownFates ≡ reverse (map fatedIn (roomsOf t))
+  pub trial-adds-cycles : AtEachTurn t (λ i c. inPlan (i .job) (c .plan) ≡ false
+      → cyclesOf (runOrder t (trial i (c .plan))) ≡ cyclesOf (runOrder t (c .plan)) + cyclesOf (addedBy i (c .plan)))
+      (turns t) noTurnYet
+  pub six-exactly-if-no-room : AtEachTurn t (λ i c. ComesToTrial i (c .plan) → endsLate t (trial i (c .plan)) ≡ false
+      → (turn t i (c .plan) .fate ≡ fateBudget) ↔ (roomLeft t (c .plan) < cyclesOf (addedBy i (c .plan)) * topOf t .cost))
+      (turns t) noTurnYet
+  pub five-at-any-room : (i : Turn) (p : List Entry) → ComesToTrial i p → endsLate t (trial i p) ≡ true
+      → turn t i p .fate ≡ fateTime
 
 module _ (t : Records) (budget : ℕ) where
   same-late : (j : Job) → lateIn (withBudget t budget) j ≡ lateIn t j
@@ -173,6 +207,20 @@ module _ (t : Records) (v : Valid t) where
         any-budget-late = same-late t;
         any-budget-rings = same-rings t;
         any-budget-turns = same-turns t;
+        room-makes-budget = always-makes-budget t v;
+        room-at-first = room-before-all t;
+        room-falls-exactly-if-accepted = falls-where-accepted t v;
+        room-falls-by-added = accepted-takes-what-it-adds t v;
+        room-else-the-same = else-the-same t v;
+        rooms-fall-or-stay = rooms-never-rise t v;
+        last-room-and-top-cost = last-room-makes-budget t v;
+        last-room-of-rows = last-room-is-the-last-row t;
+        row-for-each-turn = one-row-each-turn t;
+        room-in-each-row = room-after-turn t;
+        rows-in-own-fates = rows-tell-own-fates t;
+        trial-adds-cycles = each-trial-adds t v;
+        six-exactly-if-no-room = six-exactly-by-room t v;
+        five-at-any-room = five-whatever-room t;
       }
 
 -- They hold of whatever planning takes, and its budget is the one beside the table.

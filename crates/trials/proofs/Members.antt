@@ -16,16 +16,17 @@ use Rattle.entries.proofs.Found.{found-among, removed-at-index}
 use Rattle.entries.proofs.Moved.{moved-to}
 use Rattle.entries.proofs.Searches.{first-at-most-length, first-without, index-holds, withoutAt}
 use Rattle.entries.specs.Places.{indexOf, placeFor, withAt}
-use Rattle.entries.specs.Promises.{Inserted}
+use Rattle.entries.proofs.Sums.{cycles-with, cycles-without}
+use Rattle.entries.specs.Promises.{Inserted, cyclesAt}
 use Rattle.laws.specs.Pairs.{among}
 use Rattle.rules.specs.Lists.{Rising, find, onlyIf}
 use Rattle.rules.specs.Plan.{Entry, Limited, insert, isOf, member, memberFound, memberNew, memberPlanned, remove}
 use Rattle.rules.specs.Plan.{staysBelow}
 use Rattle.rules.specs.TableText.{mostJobs, noJob}
 use Rattle.rules.specs.declared.Job.{Job}
-use Rattle.trials.proofs.Once.{Apart, apart-new, apart-taken-out, inserted-stands, inside, length-planned, oneMore}
-use Rattle.trials.proofs.Once.{not-among, planned-among, put-in-below, put-in-inserts, put-in-stands}
-use Rattle.trials.specs.Promises.{PlanParts, Member, TrialParts, OfJobs, TrialStanding, planParts, notPlanned, planIn, plannedPlaces}
+use Rattle.trials.proofs.Once.{Apart, apart-new, apart-taken-out, inserted-stands, inside, length-planned}
+use Rattle.trials.proofs.Once.{not-among, planned-among, put-in-below, put-in-inserts, put-in-stands, total-with}
+use Rattle.trials.specs.Promises.{PlanParts, Member, Membered, TrialStanding, TrialParts, OfJobs, TotalTrue, oneMore, planParts, notPlanned, planIn, plannedPlaces}
 
 -- the rules, by what they find of the member
 module _ (k : Job) (limit : ℕ) (p : List Entry) where
@@ -48,7 +49,13 @@ module _ (k : Job) (limit : ℕ) (p : List Entry) where
   unfolding member memberFound memberPlanned staysBelow
   member-moves e p' f h q = rw (q, f) (rw (le-ltb (e .key) limit h))
 
-module _ (before : TrialParts) (place critical : ℕ) (able : TrialStanding before) (place-below : place < mostJobs) where
+module _ (before : TrialParts) (place critical : ℕ) (cycles : List ℕ) (membered : Membered before place cycles) where
+  abbrev able : TrialStanding before
+  able = membered .on-trial
+
+  abbrev place-below : place < mostJobs
+  place-below = membered .place-below
+
   abbrev p : PlanParts
   p = before .plan
 
@@ -67,7 +74,7 @@ module _ (before : TrialParts) (place critical : ℕ) (able : TrialStanding befo
   member-found js rising below of-job = found-among js rising keys place of-job (plannedPlaces p) below
 
   -- "a member in the plan with key below the limit stays, and the limit becomes that key"
-  pub member-kept : key < limit → Member before place critical (record { plan = p; limit = key; near = before .near })
+  pub member-kept : key < limit → Member before place critical cycles (record { plan = p; limit = key; near = before .near })
   member-kept l =
       let there = planned-among p (able .standing) place place-below (omega (arith, able .limit-small)) in
       record {
@@ -78,6 +85,8 @@ module _ (before : TrialParts) (place critical : ℕ) (able : TrialStanding befo
             member-stays (getD js place noJob) limit (planIn js p) (entryAt js keys place)
             (rw there at (member-found js rising below of-job)) l;
         of-jobs = λ js below of-job. below;
+        total-true = λ was. was;
+        no-fall = omega arith;
       }
 
   -- "one with key at or above the limit is removed and inserted at the limit": put in among those before it, over
@@ -124,14 +133,28 @@ module _ (before : TrialParts) (place critical : ℕ) (able : TrialStanding befo
           at-inside long (inserted .fronted)
           ∙ ap (λ n. withAt n place others) same-place-for
 
-      pub member-moved : Member before place critical (record { plan = p'; limit = limit; near = at })
+      -- taken out and put in again, it adds nothing to the total
+      total-kept : TotalTrue cycles p → TotalTrue cycles p'
+      total-kept was =
+          let there : getD (plannedPlaces p) at 0 ≡ place =
+          rw e (index-holds place (plannedPlaces p) (omega (arith, length-planned p (able .standing), at-inside))) in
+          omega (
+            arith,
+            was,
+            ap (cyclesAt cycles) moved,
+            cycles-with cycles (placeFor limit keys others) place others,
+            ap (λ q. getD cycles q 0) there,
+            cycles-without cycles at (plannedPlaces p) (omega (arith, length-planned p (able .standing), at-inside)),
+          )
+
+      pub member-moved : Member before place critical cycles (record { plan = p'; limit = limit; near = at })
       member-moved =
           let there = planned-among p (able .standing) place place-below is-planned in
           let stored = inserted .key-stored in
           record {
             standing =
                 put-in-stands place others keys apart limit p' moved stored
-                (inserted .fronted .whole ∙ able .standing .places-length) (able .standing .few)
+                (inserted .fronted .whole ∙ able .standing .places-length) (able .standing .few) (able .standing .cycles-small)
                 (omega (arith, able .limit-small));
             not-above = omega arith;
             near-inside = at-inside;
@@ -143,23 +166,25 @@ module _ (before : TrialParts) (place critical : ℕ) (able : TrialStanding befo
             of-jobs = λ js below of-job.
                 put-in-below place others keys apart limit p' moved stored (length js)
                 (below-without (length js) at (plannedPlaces p) below) of-job;
+            total-true = total-kept;
+            no-fall = omega arith;
           }
 
   -- "one not in the plan lowers the limit .., and is inserted at the limit"
   pub member-inserted : notPlanned ≤ key → (lowered : ℕ) (places' keys' : List ℕ) → lowered ≡ min limit critical
       → Inserted (p .totals .count) place lowered (p .places) keys places' keys'
-      → Member before place critical
-      (record { plan = planParts (oneMore (p .totals)) places' keys'; limit = lowered; near = before .near })
+      → Member before place critical cycles
+      (record { plan = planParts (oneMore (p .totals) (getD cycles place 0)) places' keys'; limit = lowered; near = before .near })
   member-inserted l lowered places' keys' m inserted =
-      let p' = planParts (oneMore (p .totals)) places' keys' in
+      let p' = planParts (oneMore (p .totals) (getD cycles place 0)) places' keys' in
       let apart = apart-new p (able .standing) place place-below l in
       let absent = not-among p (able .standing) place place-below l in
       let front = inserted .fronted .front in
       let stored = inserted .key-stored in
       record {
         standing =
-            inserted-stands p (able .standing) place place-below l lowered places' keys'
-            (omega (arith, able .limit-small)) inserted;
+            inserted-stands p (able .standing) place place-below l lowered (getD cycles place 0) places' keys'
+            (omega (arith, able .limit-small)) (membered .cycles-small place) inserted;
         not-above = omega arith;
         near-inside = omega (arith, able .near-inside);
         limited = λ js rising below of-job critical-of.
@@ -168,4 +193,6 @@ module _ (before : TrialParts) (place critical : ℕ) (able : TrialStanding befo
             (put-in-inserts place (plannedPlaces p) keys apart lowered p' front stored js);
         of-jobs = λ js below of-job.
             put-in-below place (plannedPlaces p) keys apart lowered p' front stored (length js) below of-job;
+        total-true = total-with cycles p place lowered places' keys' inserted;
+        no-fall = omega arith;
       }

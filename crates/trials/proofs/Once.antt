@@ -4,7 +4,7 @@
 use mathlib.Core.Bool.{true, false, _||_}
 use mathlib.Core.List.{List, [], _∷_}
 use mathlib.Core.Path.{_≡_, refl, sym, ap, _∙_}
-use Prim.Native.Nat.{ℕ, zero, suc, _+_, _≤_, _<_}
+use Prim.Native.Nat.{ℕ, zero, suc, _+_, _*_, _≤_, _<_}
 use native.Mathlib.Nat.{le-trans}
 use native.Mathlib.Omega.{arith}
 use borrow.Author.Tests.{eqb-false, eqb-true, le-ltb, leb-false, leb-true, lt-ltb, ltb-true}
@@ -15,7 +15,8 @@ use Rattle.columns.specs.Columns.{AllBelow, entriesIn}
 use Rattle.entries.proofs.Entries.{below-with, below-without, entries-with}
 use Rattle.entries.proofs.Searches.{some-where-first-inside, withoutAt}
 use Rattle.entries.specs.Places.{firstWhere, indexOf, placeFor, withAt}
-use Rattle.entries.specs.Promises.{Inserted}
+use Rattle.entries.proofs.Sums.{cycles-with}
+use Rattle.entries.specs.Promises.{Inserted, cyclesAt}
 use Rattle.laws.proofs.Choices.{eqb-swap, or-swap, split}
 use Rattle.laws.proofs.Elements.{each-too}
 use Rattle.laws.proofs.Lookups.{any-none, each-both, none-any}
@@ -23,14 +24,9 @@ use Rattle.laws.specs.Pairs.{Distinct, Pairwise, among, no-pair, _then_}
 use Rattle.laws.proofs.Pairs.{no-longer, pairs-too}
 use Rattle.rules.specs.Lists.{Each, none-left, _and_}
 use Rattle.rules.specs.Plan.{insert}
-use Rattle.rules.specs.TableText.{mostJobs, noJob}
+use Rattle.rules.specs.TableText.{mostCycles, mostJobs, noJob}
 use Rattle.rules.specs.declared.Job.{Job}
-use Rattle.trials.specs.Promises.{PlanParts, Sorted, PlanStanding, planParts, notPlanned, planIn, plannedPlaces}
-use Rattle.trials.specs.declared.Totals.{Totals}
-
--- the totals with one entry more
-abbrev pub oneMore : Totals → Totals
-oneMore totals = record { count = totals .count + 1 }
+use Rattle.trials.specs.Promises.{PlanParts, Sorted, PlanStanding, TotalTrue, oneMore, planParts, notPlanned, planIn, plannedPlaces}
 
 -- one put in
 among-with : (at n : ℕ) (ns : List ℕ) (m : ℕ) → among (withAt at n ns) m ≡ eqb m n || among ns m
@@ -179,13 +175,15 @@ module _ (place : ℕ) (ps keys : List ℕ) (apart : Apart place ps keys) where
   -- put in at a key: a plan, whose entries are those with one inserted
   module _ (key : ℕ) (p : PlanParts) (front : plannedPlaces p ≡ withAt (placeFor key keys ps) place ps)
       (key-stored : p .keys ≡ set keys place key) where
-    pub put-in-stands : length (p .places) ≡ mostJobs → p .totals .count ≤ mostJobs → key < notPlanned → PlanStanding p
-    put-in-stands whole few l =
+    pub put-in-stands : length (p .places) ≡ mostJobs → p .totals .count ≤ mostJobs
+        → p .totals .cycles ≤ mostCycles * p .totals .count → key < notPlanned → PlanStanding p
+    put-in-stands whole few small l =
         let at = placeFor key keys ps in
         record {
           places-length = whole;
           keys-length = rw key-stored (length-set keys place key ∙ apart .keys-length);
           few = few;
+          cycles-small = small;
           below = rw front (below-with mostJobs at place ps (apart .below) (apart .place-below));
           once = rw front (with-once at place none-of (apart .once));
           sorted = rw (front, key-stored) (sorted-with keys place key key-there none-of (apart .sorted));
@@ -254,18 +252,19 @@ module _ (p : PlanParts) (standing : PlanStanding p) where
 
     -- an insertion behind all entries: what it asks, and that it leaves a plan
     module _ (new : notPlanned ≤ getD keys place 0) where
-      room : count < mostJobs
+      pub room : count < mostJobs
       room = omega (arith, room-for-one-more place (plannedPlaces p) keys (apart-new new), length-planned)
 
       pub room-behind : (count < length places) × AllBelow mostJobs (plannedPlaces p) × (place < mostJobs)
       room-behind = (omega (arith, room, standing .places-length), standing .below, h)
 
-      pub inserted-stands : (key : ℕ) (places' keys' : List ℕ) → key < notPlanned
-          → Inserted count place key places keys places' keys' → PlanStanding (planParts (oneMore (p .totals)) places' keys')
-      inserted-stands key places' keys' l inserted =
-          put-in-stands place (plannedPlaces p) keys (apart-new new) key (planParts (oneMore (p .totals)) places' keys')
+      pub inserted-stands : (key cycles : ℕ) (places' keys' : List ℕ) → key < notPlanned → cycles ≤ mostCycles
+          → Inserted count place key places keys places' keys'
+          → PlanStanding (planParts (oneMore (p .totals) cycles) places' keys')
+      inserted-stands key cycles places' keys' l small inserted =
+          put-in-stands place (plannedPlaces p) keys (apart-new new) key (planParts (oneMore (p .totals) cycles) places' keys')
           (inserted .fronted .front) (inserted .key-stored) (inserted .fronted .whole ∙ standing .places-length)
-          (omega (arith, room)) l
+          (omega (arith, room)) (omega (arith, standing .cycles-small)) l
 
   -- an insertion over one of the entries: what it asks
   pub room-inside : (n place : ℕ) → n < count → place < mostJobs
@@ -282,3 +281,15 @@ module _ (p : PlanParts) (standing : PlanStanding p) where
         ),
     h,
   )
+
+-- an entry more adds its cycles to the total
+pub total-with : (cycles : List ℕ) (p : PlanParts) (place key : ℕ) (places' keys' : List ℕ)
+    → Inserted (p .totals .count) place key (p .places) (p .keys) places' keys'
+    → TotalTrue cycles p → TotalTrue cycles (planParts (oneMore (p .totals) (getD cycles place 0)) places' keys')
+total-with cycles p place key places' keys' inserted was =
+    omega (
+      arith,
+      was,
+      ap (cyclesAt cycles) (inserted .fronted .front),
+      cycles-with cycles (placeFor key (p .keys) (plannedPlaces p)) place (plannedPlaces p),
+    )

@@ -18,7 +18,7 @@ use Rattle.rules.specs.Plan.{judge, ratioZero, tooDear, trial, turn, turnOf, wa
 use Rattle.rules.specs.TableText.{Records, mostJobs, noJob}
 use Rattle.rules.specs.declared.Job.{Job}
 use Rattle.trials.proofs.Judged.{fateBy}
-use Rattle.trials.specs.Promises.{PlanParts, FateJudged, PlanStanding, Tried, TurnColumns, TurnOf, TurnTaken, planParts, notPlanned}
+use Rattle.trials.specs.Promises.{PlanParts, FateJudged, PlanStanding, Tried, Turnable, TurnColumns, TurnOf, TurnTaken, planParts, notPlanned}
 use Rattle.trials.specs.Promises.{planIn, plannedPlaces}
 use Rattle.trials.specs.declared.JobInTurn.{JobInTurn}
 use Rattle.steps.proofs.RunOrder.{run-order}
@@ -81,8 +81,13 @@ module _ (t : Records) (i : Turn) (p : List Entry) where
         unfolding judge
         accepted f = accepted-by (endsLate t q) (tooDear t q) fate p q told f ∙ judged
 
-module _ (p : PlanParts) (job : JobInTurn) (c : TurnColumns) (terms : Terms) (standing : PlanStanding p)
-    (place-below : job .place < mostJobs) where
+module _ (p : PlanParts) (job : JobInTurn) (c : TurnColumns) (terms : Terms) (turnable : Turnable p job c terms) where
+  abbrev standing : PlanStanding p
+  standing = turnable .standing
+
+  abbrev place-below : job .place < mostJobs
+  place-below = turnable .place-below
+
   -- the table is the columns'
   abbrev Table : Records → Type 0
   Table t = TurnOf t p job c terms
@@ -118,6 +123,7 @@ module _ (p : PlanParts) (job : JobInTurn) (c : TurnColumns) (terms : Terms) (st
       places-length = whole;
       keys-length = standing .keys-length;
       few = standing .few;
+      cycles-small = standing .cycles-small;
       below = rw front (standing .below);
       once = rw front (standing .once);
       sorted = rw front (standing .sorted);
@@ -131,6 +137,9 @@ module _ (p : PlanParts) (job : JobInTurn) (c : TurnColumns) (terms : Terms) (st
       standing = plan-stands;
       outcome = λ t of. rw front (outcome t of);
       of-jobs = λ t of. rw front (of .of-jobs);
+      total-true = rw front (turnable .total-true);
+      no-fall = omega arith;
+      within = λ was. was;
     }
 
   pub job-passed-over : key < notPlanned → TurnTaken p job c terms p fatePlanned
@@ -147,7 +156,7 @@ module _ (p : PlanParts) (job : JobInTurn) (c : TurnColumns) (terms : Terms) (st
         stays (p .places) (standing .places-length) refl fateRatioZero (λ t of.
         gives-nothing t (turnOf t (jobIn t)) (before t) (new-told t of) (over-told t of ∙ z))
 
-    module _ (some : job .over ≡ 0 → ⊥) (q : PlanParts) (tried : Tried p (job .place) (c .waits) (c .critical) q) where
+    module _ (some : job .over ≡ 0 → ⊥) (q : PlanParts) (tried : Tried p (job .place) (c .waits) (c .critical) (c .cycles) q) where
       trial-told : (t : Records) → Table t → planIn (t .jobs) q ≡ trial (turnOf t (jobIn t)) (before t)
       unfolding trial turnOf
       trial-told t of =
@@ -157,7 +166,8 @@ module _ (p : PlanParts) (job : JobInTurn) (c : TurnColumns) (terms : Terms) (st
       gives-told : (t : Records) → Table t → turnOf t (jobIn t) .ratio .over ≡ 0 → ⊥
       gives-told t of z = some (sym (over-told t of) ∙ z)
 
-      module _ (fate : ℕ) (judged-so : FateJudged (plannedPlaces q) (c .cycles) (c .termination) terms fate) where
+      module _ (fate : ℕ)
+          (judged-so : FateJudged (plannedPlaces q) (q .totals .cycles) (c .cycles) (c .termination) terms fate) where
         fate-told : (t : Records) → Table t
             → fate ≡ fateBy (endsLate t (planIn (t .jobs) q)) (tooDear t (planIn (t .jobs) q))
         fate-told t of =
@@ -186,4 +196,7 @@ module _ (p : PlanParts) (job : JobInTurn) (c : TurnColumns) (terms : Terms) (st
               (trial-told t of) fate (fate-told t of) f;
           of-jobs = λ t of.
               tried .of-jobs (t .jobs) (waitsLeft t) (of .columns-of .waits-left) (of .of-jobs) (of .place-of-job);
+          total-true = tried .total-true (turnable .total-true);
+          no-fall = tried .no-fall;
+          within = λ was. judged-so .within f;
         }

@@ -15,8 +15,8 @@ use Rattle.rules.specs.Lists.{Rising}
 use Rattle.rules.specs.Plan.{Limited, awaited, begin, follow, member, members}
 use Rattle.rules.specs.TableText.{mostHolds, mostJobs, noJob}
 use Rattle.rules.specs.declared.Job.{Job}
-use Rattle.trials.proofs.Once.{Apart, apart-new, inserted-stands, oneMore, put-in-below, put-in-inserts}
-use Rattle.trials.specs.Promises.{PlanParts, Member, TrialParts, OfJobs, TrialStanding, Triable, Tried, planParts, planIn, plannedPlaces}
+use Rattle.trials.proofs.Once.{Apart, apart-new, inserted-stands, put-in-below, put-in-inserts, total-with}
+use Rattle.trials.specs.Promises.{PlanParts, Member, TrialParts, OfJobs, TotalTrue, TrialStanding, Triable, Tried, oneMore, planParts, planIn, plannedPlaces}
 
 -- the chain, member by member
 module _ (next : Job → Option Job) where
@@ -47,7 +47,7 @@ abbrev limitedIn : List Job → TrialParts → Limited
 limitedIn js s = record { limit = s .limit; plan = planIn js (s .plan) }
 
 -- in mid-walk, with so many steps left; it began at at₀, with the plan s₀
-pub record Walked (waits critical : List ℕ) (s₀ : TrialParts) (at₀ : ℕ) (s : TrialParts) (at left : ℕ) : Type 0 where
+pub record Walked (waits critical cycles : List ℕ) (s₀ : TrialParts) (at₀ : ℕ) (s : TrialParts) (at left : ℕ) : Type 0 where
   pub on-trial : TrialStanding s
   pub rest : (js : List Job) (next : Job → Option Job) → Rising (λ j. j .number) js → Waits js next waits
       → Column (λ j. j .critical) js critical → OfJobs js (s₀ .plan) → PlaceOrNobody js at₀
@@ -57,19 +57,23 @@ pub record Walked (waits critical : List ℕ) (s₀ : TrialParts) (at₀ : ℕ) 
       → PlaceOrNobody js at₀ → OfJobs js (s .plan)
   pub at-place : (js : List Job) (next : Job → Option Job) → Waits js next waits → PlaceOrNobody js at₀
       → PlaceOrNobody js at
+  pub total-true : TotalTrue cycles (s₀ .plan) → TotalTrue cycles (s .plan)
+  pub no-fall : s₀ .plan .totals .cycles ≤ s .plan .totals .cycles
 
-module _ (waits critical : List ℕ) (s₀ : TrialParts) (at₀ : ℕ) where
-  walk-begins : TrialStanding s₀ → Walked waits critical s₀ at₀ s₀ at₀ mostHolds
+module _ (waits critical cycles : List ℕ) (s₀ : TrialParts) (at₀ : ℕ) where
+  walk-begins : TrialStanding s₀ → Walked waits critical cycles s₀ at₀ s₀ at₀ mostHolds
   walk-begins on-trial = record {
     on-trial = on-trial;
     rest = λ js next rising column critical-of below w. refl;
     of-jobs = λ js next column below w. below;
     at-place = λ js next column w. w;
+    total-true = λ was. was;
+    no-fall = omega arith;
   }
 
-  module _ (s : TrialParts) (at left : ℕ) (walked : Walked waits critical s₀ at₀ s at left) where
+  module _ (s : TrialParts) (at left : ℕ) (walked : Walked waits critical cycles s₀ at₀ s at left) where
     pub walk-goes-on : (s' : TrialParts) (left' : ℕ) → at < mostJobs → left ≡ suc left'
-        → Member s at (getD critical at 0) s' → Walked waits critical s₀ at₀ s' (getD waits at 0) left'
+        → Member s at (getD critical at 0) cycles s' → Walked waits critical cycles s₀ at₀ s' (getD waits at 0) left'
     walk-goes-on s' left' h e stepped =
         let here : (js : List Job) (next : Job → Option Job) → Waits js next waits → PlaceOrNobody js at₀
         → at < length js = λ js next column w. is-place js at (walked .at-place js next column w) h in
@@ -89,6 +93,8 @@ module _ (waits critical : List ℕ) (s₀ : TrialParts) (at₀ : ℕ) where
           of-jobs = λ js next column below w.
               stepped .of-jobs js (walked .of-jobs js next column below w) (here js next column w);
           at-place = λ js next column w. column .place-or-nobody at (here js next column w);
+          total-true = λ was. stepped .total-true (walked .total-true was);
+          no-fall = omega (arith, walked .no-fall, stepped .no-fall);
         }
 
 -- the members leave the plan as it is
@@ -103,7 +109,7 @@ over-at-nobody waits left at h js next s column = nobody-met next js waits colum
 pub over-after-all : (waits : List ℕ) (left at : ℕ) → left ≡ 0 → Over waits left at
 over-after-all waits left at e js next s column = rw e (no-member-left next (atPlace js at) s)
 
-module _ (p : PlanParts) (place : ℕ) (waits critical : List ℕ) (triable : Triable p place critical) where
+module _ (p : PlanParts) (place : ℕ) (waits critical cycles : List ℕ) (triable : Triable p place critical cycles) where
   -- the job of the turn is not in the plan
   apart : Apart place (plannedPlaces p) (p .keys)
   apart = apart-new p (triable .standing) place (triable .place-below) (triable .not-planned)
@@ -111,15 +117,20 @@ module _ (p : PlanParts) (place : ℕ) (waits critical : List ℕ) (triable : Tr
   module _ (places₀ keys₀ : List ℕ)
       (inserted : Inserted (p .totals .count) place (getD critical place 0) (p .places) (p .keys) places₀ keys₀) where
     abbrev first : TrialParts
-    first = record { plan = planParts (oneMore (p .totals)) places₀ keys₀; limit = getD critical place 0; near = 0 }
+    first = record {
+      plan = planParts (oneMore (p .totals) (getD cycles place 0)) places₀ keys₀;
+      limit = getD critical place 0;
+      near = 0;
+    }
 
-    pub walk-begun : Walked waits critical first (getD waits place 0) first (getD waits place 0) mostHolds
+    pub walk-begun : Walked waits critical cycles first (getD waits place 0) first (getD waits place 0) mostHolds
     walk-begun =
-        walk-begins waits critical first (getD waits place 0)
+        walk-begins waits critical cycles first (getD waits place 0)
         (record {
           standing =
               inserted-stands p (triable .standing) place (triable .place-below) (triable .not-planned) (getD critical place 0)
-              places₀ keys₀ (omega (arith, triable .critical-small place)) inserted;
+              (getD cycles place 0) places₀ keys₀ (omega (arith, triable .critical-small place)) (triable .cycles-small place)
+              inserted;
           limit-small = triable .critical-small place;
           near-inside = omega arith;
         })
@@ -146,8 +157,8 @@ module _ (p : PlanParts) (place : ℕ) (waits critical : List ℕ) (triable : Tr
         (inserted .key-stored) (length js)
 
     -- the walk is over: the trial is made
-    pub trial-made : (s : TrialParts) (at left : ℕ) → Walked waits critical first (getD waits place 0) s at left
-        → Over waits left at → Tried p place waits critical (s .plan)
+    pub trial-made : (s : TrialParts) (at left : ℕ) → Walked waits critical cycles first (getD waits place 0) s at left
+        → Over waits left at → Tried p place waits critical cycles (s .plan)
     trial-made s at left walked over = record {
       standing = walked .on-trial .standing;
       plan = λ js next rising column critical-of below h.
@@ -157,4 +168,7 @@ module _ (p : PlanParts) (place : ℕ) (waits critical : List ℕ) (triable : Tr
           ∙ chain-begun js next column critical-of h);
       of-jobs = λ js next column below h.
           walked .of-jobs js next column (begun-of-jobs js below h) (column .place-or-nobody place h);
+      total-true = λ was.
+          walked .total-true (total-with cycles p place (getD critical place 0) places₀ keys₀ inserted was);
+      no-fall = omega (arith, walked .no-fall);
     }

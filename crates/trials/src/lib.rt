@@ -4,7 +4,6 @@ use columns::Terms;
 use entries::in_time;
 use entries::index_of;
 use entries::insert;
-use entries::total_cycles;
 use filling::copy_front;
 use rules::FATE_BUDGET;
 use rules::FATE_PLANNED;
@@ -14,19 +13,21 @@ use rules::MOST_HOLDS;
 use rules::MOST_JOBS;
 ghost use mathlib.Core.Bool.{cond, not};
 ghost use mathlib.Core.Path.{_≡_};
-ghost use Prim.Native.Nat.{_<_, min};
+ghost use Prim.Native.Nat.{_*_, _≤_, _<_, min};
 ghost use lib.Dec.{ltb};
 ghost use Rattle.rules.specs.Plan.{fateBudget, fatePlanned, fateTime};
-ghost use Rattle.rules.specs.TableText.{mostJobs};
-ghost use Rattle.trials.specs.Promises.{Judgeable, FateJudged, Member, TrialStanding, Triable, Tried, Turnable, TurnTaken};
-ghost use Rattle.trials.specs.Promises.{columnsRead, planParts, trialParts};
+ghost use Rattle.rules.specs.TableText.{mostCycles, mostJobs};
+ghost use Rattle.trials.specs.Promises.{FateJudged, Judgeable, Member, Membered, Triable, Tried, Turnable, TurnTaken};
+ghost use Rattle.trials.specs.Promises.{columnsRead, oneMore, planParts, trialParts};
 
 // The key of a job that is not in the plan: above every time.
 pub const NOT_PLANNED: u64 = 1000000001;
 
-// The plan's totals: how many entries it has. Its places and keys stand in lent columns.
+// The plan record, by value beside the lent columns of its places and keys: how many entries it has, and the sum of their
+// cycles. So no pass over the entries adds them up again.
 pub struct Totals {
     pub count: usize,
+    pub cycles: u64,
 }
 
 // The job whose turn it is: its place, and what the members of its chain give.
@@ -59,6 +60,17 @@ fn lower(limit: u64, critical: u64) -> u64
     limit
 }
 
+// The totals with one entry more.
+fn with_entry(totals: Totals, cycles: u64) -> Totals
+    requires { ⌜ (totals .count < mostJobs) × (totals .cycles ≤ mostCycles * totals .count) × (cycles ≤ mostCycles) ⌝ }
+    ensures { λ r. ⌜ r ≡ oneMore totals cycles ⌝ }
+{
+    Totals {
+        count: totals.count + 1,
+        cycles: totals.cycles + cycles,
+    }
+}
+
 // Step 6, for one member of the chain: "in the plan with key below the limit stays ..; one with key at or above the
 // limit is removed and inserted at the limit; one not in the plan lowers the limit ..".
 fn member(
@@ -67,9 +79,10 @@ fn member(
     from: MidTrial,
     place: usize,
     critical: u64,
+    cycles: &[u64; MOST_JOBS],
 ) -> MidTrial
-    requires { ⌜ TrialStanding (trialParts from (now places) (now keys)) × (place < mostJobs) ⌝ }
-    ensures { λ r. ⌜ Member (trialParts from (now (places .entry)) (now (keys .entry))) place critical (trialParts r (now (places .exit)) (now (keys .exit))) ⌝ }
+    requires { ⌜ Membered (trialParts from (now places) (now keys)) place (now cycles) ⌝ }
+    ensures { λ r. ⌜ Member (trialParts from (now (places .entry)) (now (keys .entry))) place critical (now (cycles .entry)) (trialParts r (now (places .exit)) (now (keys .exit))) ⌝ }
 {
     let totals = from.totals;
     let count = totals.count;
@@ -96,7 +109,7 @@ fn member(
     let lowered = lower(limit, critical);
     insert(&mut places[..], keys, count, place, lowered);
     MidTrial {
-        totals: Totals { count: count + 1 },
+        totals: with_entry(totals, cycles[place]),
         limit: lowered,
         near,
     }
@@ -110,15 +123,17 @@ pub fn trial<'a>(
     place: usize,
     waits: &'a [u64; MOST_JOBS],
     critical: &'a [u64; MOST_JOBS],
+    cycles: &'a [u64; MOST_JOBS],
 ) -> Totals
-    requires { ⌜ Triable (planParts totals (now places) (now keys)) place (now critical) ⌝ }
-    ensures { λ r. ⌜ Tried (planParts totals (now (places .entry)) (now (keys .entry))) place (now (waits .entry)) (now (critical .entry)) (planParts r (now (places .exit)) (now (keys .exit))) ⌝ }
+    requires { ⌜ Triable (planParts totals (now places) (now keys)) place (now critical) (now cycles) ⌝ }
+    ensures { λ r. ⌜ Tried (planParts totals (now (places .entry)) (now (keys .entry))) place (now (waits .entry)) (now (critical .entry)) (now (cycles .entry)) (planParts r (now (places .exit)) (now (keys .exit))) ⌝ }
 {
     let count = totals.count;
     let limit = critical[place];
+    let own_cycles = cycles[place];
     insert(&mut places[..], keys, count, place, limit);
     let mut so_far = MidTrial {
-        totals: Totals { count: count + 1 },
+        totals: with_entry(totals, own_cycles),
         limit,
         near: 0,
     };
@@ -128,7 +143,7 @@ pub fn trial<'a>(
         if MOST_JOBS <= at {
             return so_far.totals;
         }
-        so_far = member(&mut places[..], keys, so_far, at, critical[at]);
+        so_far = member(&mut places[..], keys, so_far, at, critical[at], cycles);
         at = waits[at] as usize;
         i += 1;
     }
@@ -149,18 +164,19 @@ fn fate_by(timely: bool, energy: u64, budget: u64) -> u64
     FATE_PLANNED
 }
 
-// Step 7, "Accept or not": the fate of a trial that has the jobs at these places.
+// Step 7, "Accept or not": the fate of a trial that has the jobs at these places, and so many cycles in all.
 fn judge<'a>(
     places: &[u64],
+    all_cycles: u64,
     cycles: &'a [u64; MOST_JOBS],
     termination: &'a [u64; MOST_JOBS],
     terms: Terms,
 ) -> u64
-    requires { ⌜ Judgeable (now places) (now cycles) (now termination) terms ⌝ }
-    ensures { λ r. ⌜ FateJudged (now (places .entry)) (now (cycles .entry)) (now (termination .entry)) terms r ⌝ }
+    requires { ⌜ Judgeable (now places) «all_cycles» (now cycles) (now termination) terms ⌝ }
+    ensures { λ r. ⌜ FateJudged (now (places .entry)) «all_cycles» (now (cycles .entry)) (now (termination .entry)) terms r ⌝ }
 {
     let timely = in_time(places, cycles, termination, terms.clock, terms.mhz);
-    let energy = total_cycles(places, cycles) * terms.cost;
+    let energy = all_cycles * terms.cost;
     fate_by(timely, energy, terms.budget)
 }
 
@@ -195,10 +211,19 @@ pub fn turn<'a>(
     }
     copy_front(&mut kept[..], &places[..], count);
     let keys_before = *keys;
-    let tried = trial(&mut places[..], keys, totals, place, waits, critical);
+    let tried = trial(
+        &mut places[..],
+        keys,
+        totals,
+        place,
+        waits,
+        critical,
+        cycles,
+    );
     let whole = &places[..];
     let entries = tried.count;
-    let fate = judge(&whole[..entries], cycles, termination, terms);
+    let all_cycles = tried.cycles;
+    let fate = judge(&whole[..entries], all_cycles, cycles, termination, terms);
     if fate != FATE_PLANNED {
         copy_front(&mut places[..], &kept[..], count);
         *keys = keys_before;

@@ -2,25 +2,26 @@
  * output, until the input ends. rust/check/src/served.rs is the other side.
  *
  * Both ways go frames: the length of what follows in bytes, and then any number of requests, or their answers in the same
- * order. A number, a length and a place of an order or fate buffer are 8 bytes, the lowest first; a table is 485 numbers
- * in the order of its struct. A frame is read whole before the first answer is written, so neither side waits for the
- * other to make room.
+ * order. A number, a length and a place of an order, fate, turn or room buffer are 8 bytes, the lowest first; a table is
+ * 485 numbers in the order of its struct. A frame is read whole before the first answer is written, so neither side waits
+ * for the other to make room.
  *
  *   request                                                          answer
  *   1, text length, text                                              number, line, table
  *   2, table, budget, order length, fates length, order, fates        number, line, count, speed, energy, order, fates
- *   3, text length, out length, text, out                             number, line, length, out
- *   4, budget, text length, out length, text, out                     number, line, length, out
- *   5, table, out length, out                                         number, line, length, out
- *   6, mean, variance, assurance                                      number, line, cycles
- *   7, model                                                          number, line, seven costs
+ *   3, table, budget, turns length, rooms length, turns, rooms        number, line, count, room, turns, rooms
+ *   4, text length, out length, text, out                             number, line, length, out
+ *   5, budget, text length, out length, text, out                     number, line, length, out
+ *   6, table, out length, out                                         number, line, length, out
+ *   7, mean, variance, assurance                                      number, line, cycles
+ *   8, model                                                          number, line, seven costs
  */
 #include <cuddlelamb.h>
 #include <stdio.h>
 #include <stdlib.h>
 #include <string.h>
 
-enum { READ = 1, PLAN, LIST, LIST_WITH_BUDGET, WRITE, ALLOCATE, COSTS };
+enum { READ = 1, PLAN, ROOMS, LIST, LIST_WITH_BUDGET, WRITE, ALLOCATE, COSTS };
 
 struct frame {
     uint8_t *bytes;
@@ -101,6 +102,21 @@ static void plan(struct frame *from, struct frame *to) {
     free(fates);
 }
 
+static void rooms(struct frame *from, struct frame *to) {
+    struct cuddlelamb_table table;
+    take(from, &table, sizeof table);
+    uint64_t budget = take_number(from);
+    size_t turns_length = take_number(from), rooms_length = take_number(from);
+    uint64_t *turns = take_buffer(from, turns_length * sizeof *turns);
+    uint64_t *rooms = take_buffer(from, rooms_length * sizeof *rooms);
+    struct cuddlelamb_rooms_answer answer = cuddlelamb_rooms(table, budget, turns, turns_length, rooms, rooms_length);
+    give(to, &answer, sizeof answer);
+    give(to, turns, turns_length * sizeof *turns);
+    give(to, rooms, rooms_length * sizeof *rooms);
+    free(turns);
+    free(rooms);
+}
+
 static void list(struct frame *from, struct frame *to) {
     size_t text_length = take_number(from), out_length = take_number(from);
     uint8_t *text = take_buffer(from, text_length);
@@ -150,6 +166,7 @@ static void answer_request(struct frame *from, struct frame *to) {
     switch (take_number(from)) {
     case READ: read_table(from, to); break;
     case PLAN: plan(from, to); break;
+    case ROOMS: rooms(from, to); break;
     case LIST: list(from, to); break;
     case LIST_WITH_BUDGET: list_with_budget(from, to); break;
     case WRITE: write_table(from, to); break;

@@ -1,11 +1,11 @@
 //! Changes of a table, or of the budget beside it, that must not change the plan: the same jobs, by their places, in the
-//! same order, with the same fates, at the same speed.
+//! same order, with the same fates, at the same speed; nor the rooms, but for the factor of the costs.
 
 use crate::generate::{self, Random};
-use crate::naive::Answer;
+use crate::naive::{Answer, RoomsAnswer};
 use crate::reference::{Speed, Table, HOLDS, LAST_NUMBER, LAST_TIME, MOST_BUDGET, MOST_COST, MOST_WORTH};
 
-/// A changed table with the budget beside it, and what the change multiplies the plan's energy by.
+/// A changed table with the budget beside it, and what the change multiplies the plan's energy and the rooms by.
 pub struct Change {
     pub what: &'static str,
     pub table: Table,
@@ -31,15 +31,24 @@ pub fn changes(random: &mut Random, table: &Table, budget: u64) -> [Change; 7] {
 impl Change {
     /// Whether the changed table's plan is that of the table itself.
     pub fn leaves(&self, table: &Table, old: &Answer, new: &Answer) -> bool {
-        let places = |table: &Table, order: &[u64]| -> Vec<Option<usize>> {
-            let jobs = &table.jobs[..table.job_count];
-            order.iter().map(|number| jobs.iter().position(|job| job.number == *number)).collect()
-        };
         places(table, &old.order) == places(&self.table, &new.order)
             && old.fates == new.fates
             && (old.plan.count, old.plan.speed) == (new.plan.count, new.plan.speed)
             && old.plan.energy * self.factor == new.plan.energy
     }
+
+    /// Whether the changed table's rooms are those of the table itself.
+    pub fn leaves_rooms(&self, table: &Table, old: &RoomsAnswer, new: &RoomsAnswer) -> bool {
+        places(table, &old.turns) == places(&self.table, &new.turns)
+            && old.rooms.iter().map(|room| room * self.factor).eq(new.rooms.iter().copied())
+            && old.room * self.factor == new.room
+    }
+}
+
+/// The places of the jobs with these numbers.
+fn places(table: &Table, numbers: &[u64]) -> Vec<Option<usize>> {
+    let jobs = &table.jobs[..table.job_count];
+    numbers.iter().map(|number| jobs.iter().position(|job| job.number == *number)).collect()
 }
 
 /// All times moved by the same amount, as far as the range goes.

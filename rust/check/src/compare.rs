@@ -1,11 +1,11 @@
-//! The library held against the reference, or against the naive one: the same calls to both, and everything that comes
-//! back compared, the lent buffers place by place.
+//! The library held against the reference, or against the naive one, and the reference against the naive one: the same
+//! calls to both, and everything that comes back compared, the lent buffers place by place.
 
 use crate::generate::{self, Random};
 use crate::library::{Answer, Request, Told};
 use crate::naive;
 use crate::reference::{
-    self, Plan, Refused, Table, LONGEST_LISTING, LONGEST_TEXT, MOST_ASSURANCE, MOST_MEAN, MOST_VARIANCE,
+    self, Plan, Refused, Rooms, Table, LONGEST_LISTING, LONGEST_TEXT, MOST_ASSURANCE, MOST_MEAN, MOST_VARIANCE,
 };
 use crate::Library;
 
@@ -38,6 +38,9 @@ pub fn by_reference(request: &Request) -> Answer {
         Request::Plan { table, budget, order, fates } => {
             plan_answer(order, fates, |order, fates| reference::plan(table, *budget, order, fates))
         }
+        Request::Rooms { table, budget, turns, rooms } => {
+            rooms_answer(turns, rooms, |turns, rooms| reference::rooms(table, *budget, turns, rooms))
+        }
         Request::List { text, out } => text_answer(out, |out| reference::list(text, out)),
         Request::ListWithBudget { text, budget, out } => {
             text_answer(out, |out| reference::list_with_budget(text, *budget, out))
@@ -56,6 +59,9 @@ pub fn by_naive(request: &Request) -> Answer {
         Request::Read { text } => Answer::Table { told: Box::new(Told::of(naive::read(text), Table::EMPTY)) },
         Request::Plan { table, budget, order, fates } => {
             plan_answer(order, fates, |order, fates| naive::plan_into(table, *budget, order, fates))
+        }
+        Request::Rooms { table, budget, turns, rooms } => {
+            rooms_answer(turns, rooms, |turns, rooms| naive::rooms_into(table, *budget, turns, rooms))
         }
         Request::List { text, out } => text_answer(out, |out| naive::write_into(&naive::list(text), out)),
         Request::ListWithBudget { text, budget, out } => {
@@ -82,6 +88,17 @@ fn plan_answer(
     Answer::Plan { told, order, fates }
 }
 
+/// What a call answers that tells the rooms into copies of these buffers.
+fn rooms_answer(
+    turns: &[u64],
+    rooms: &[u64],
+    call: impl FnOnce(&mut [u64], &mut [u64]) -> Result<Rooms, Refused>,
+) -> Answer {
+    let (mut turns, mut rooms) = (turns.to_vec(), rooms.to_vec());
+    let told = Told::of(call(&mut turns, &mut rooms), Rooms::default());
+    Answer::Rooms { told, turns, rooms }
+}
+
 /// What a call answers that writes into a copy of this buffer.
 fn text_answer(out: &[u8], call: impl FnOnce(&mut [u8]) -> Result<usize, Refused>) -> Answer {
     let mut out = out.to_vec();
@@ -89,25 +106,44 @@ fn text_answer(out: &[u8], call: impl FnOnce(&mut [u8]) -> Result<usize, Refused
     Answer::Text { told, out }
 }
 
-/// Compares the cases from one index up to another; a difference is given as it is to be printed.
+/// Compares the library on the cases from one index up to another; a difference is given as it is to be printed.
 pub fn cases(library: &mut Library, expected: Expected, seed: u64, from: u64, to: u64) -> Result<Tally, String> {
+    compare_cases(|requests| library.answers(requests), expected, seed, from, to)
+}
+
+/// The same with the reference in the library's place, held against the naive one.
+pub fn cases_of_reference(seed: u64, from: u64, to: u64) -> Result<Tally, String> {
+    compare_cases(|requests| requests.iter().map(by_reference).collect(), by_naive, seed, from, to)
+}
+
+fn compare_cases(
+    mut given: impl FnMut(&[Request]) -> Vec<Answer>,
+    expected: Expected,
+    seed: u64,
+    from: u64,
+    to: u64,
+) -> Result<Tally, String> {
     let mut tally = Tally::default();
     for first in (from..to).step_by(BATCH as usize) {
         let batch = first..to.min(first + BATCH);
         let calls: Vec<(u64, Request)> =
             batch.flat_map(|index| case(seed, index).into_iter().map(move |request| (index, request))).collect();
         let (indices, requests): (Vec<u64>, Vec<Request>) = calls.into_iter().unzip();
-        let told = requests_of(library, expected, &requests)
+        let told = compare_answers(&requests, given(&requests), expected)
             .map_err(|(at, difference)| format!("seed {seed}, index {}: {difference}", indices[at]))?;
         tally.add(&Tally { cases: to.min(first + BATCH) - first, ..told });
     }
     Ok(tally)
 }
 
-/// Compares any requests; a difference is given with the place of its request.
+/// Compares the library on any requests; a difference is given with the place of its request.
 pub fn requests_of(library: &mut Library, expected: Expected, requests: &[Request]) -> Result<Tally, (usize, String)> {
+    compare_answers(requests, library.answers(requests), expected)
+}
+
+fn compare_answers(requests: &[Request], given: Vec<Answer>, expected: Expected) -> Result<Tally, (usize, String)> {
     let mut tally = Tally::default();
-    for (at, (request, given)) in requests.iter().zip(library.answers(requests)).enumerate() {
+    for (at, (request, given)) in requests.iter().zip(given).enumerate() {
         let expected = expected(request);
         if given != expected {
             return Err((at, difference(request, &expected, &given)));
@@ -120,7 +156,8 @@ pub fn requests_of(library: &mut Library, expected: Expected, requests: &[Reques
 
 /// The calls of one case. A valid text is read and listed, and its table planned with its own budget and with others, and
 /// written. A damaged text is read and listed, and what came of it planned, which is the table without records where the
-/// text is refused. A rough table is planned and written. An allocation and the costs of a model are asked.
+/// text is refused. A rough table is planned and written. Whatever is planned, with budgets and buffers of the same kinds
+/// its rooms are asked too. An allocation and the costs of a model are asked.
 pub fn case(seed: u64, index: u64) -> Vec<Request> {
     let random = &mut Random::new(seed, index ^ 1 << 63);
     let table = generate::table(seed, index);
@@ -131,39 +168,57 @@ pub fn case(seed: u64, index: u64) -> Vec<Request> {
     vec![
         Request::Read { text: text.clone() },
         planning(&table, table.budget, filled_buffers(random)),
-        planning_with_budget(random, &table, true),
-        planning_with_budget(random, &table, false),
+        with_budget(random, &table, true, planning),
+        with_budget(random, &table, false, planning),
+        rooms(&table, table.budget, filled_buffers(random)),
+        with_budget(random, &table, true, rooms),
+        with_budget(random, &table, false, rooms),
         listing(random, &text),
         listing_with_budget(random, &text, &table),
         writing(random, &table),
         Request::Read { text: damaged.clone() },
-        planning_with_budget(random, &read, false),
+        with_budget(random, &read, false, planning),
+        with_budget(random, &read, false, rooms),
         listing(random, &damaged),
         listing_with_budget(random, &damaged, &read),
-        planning_with_budget(random, &rough, true),
-        planning_with_budget(random, &rough, false),
+        with_budget(random, &rough, true, planning),
+        with_budget(random, &rough, false, planning),
+        with_budget(random, &rough, true, rooms),
+        with_budget(random, &rough, false, rooms),
         writing(random, &rough),
         allocation(random),
         Request::Costs { model: if random.chance(80) { random.below(6) } else { random.number() } },
     ]
 }
 
-fn planning(table: &Table, budget: u64, (order, fates): (Vec<u64>, Vec<u64>)) -> Request {
+/// Two lent buffers of places.
+type Buffers = (Vec<u64>, Vec<u64>);
+
+fn planning(table: &Table, budget: u64, (order, fates): Buffers) -> Request {
     Request::Plan { table: Box::new(*table), budget, order, fates }
 }
 
-/// Any table planned with a budget beside it, into buffers with room or into any.
-fn planning_with_budget(random: &mut Random, table: &Table, with_room: bool) -> Request {
+fn rooms(table: &Table, budget: u64, (turns, rooms): Buffers) -> Request {
+    Request::Rooms { table: Box::new(*table), budget, turns, rooms }
+}
+
+/// A call that plans any table with a budget beside it, into buffers with room or into any.
+fn with_budget(
+    random: &mut Random,
+    table: &Table,
+    with_room: bool,
+    call: impl FnOnce(&Table, u64, Buffers) -> Request,
+) -> Request {
     let budget = generate::budget_beside(random, table);
     let buffers = if with_room { filled_buffers(random) } else { generate::buffers(random.number(), random.number()) };
-    planning(table, budget, buffers)
+    call(table, budget, buffers)
 }
 
 /// Two buffers that are long enough, full of anything.
-fn filled_buffers(random: &mut Random) -> (Vec<u64>, Vec<u64>) {
-    let (order, fates) = (random.one_of(&[64, 64, 65, 100]), random.one_of(&[64, 64, 65, 100]));
+fn filled_buffers(random: &mut Random) -> Buffers {
+    let (one, other) = (random.one_of(&[64, 64, 65, 100]), random.one_of(&[64, 64, 65, 100]));
     let mut filled = |length: u64| (0..length).map(|_| random.number()).collect();
-    (filled(order), filled(fates))
+    (filled(one), filled(other))
 }
 
 /// A buffer full of anything for a text of this length: as long, longer, shorter, or empty.
@@ -218,6 +273,10 @@ fn difference(request: &Request, expected: &Answer, given: &Answer) -> String {
         Request::Plan { table, budget, order, fates } => {
             let places = (order.len(), fates.len());
             format!("plan with budget {budget} into {places:?} places, {}", shown(table))
+        }
+        Request::Rooms { table, budget, turns, rooms } => {
+            let places = (turns.len(), rooms.len());
+            format!("rooms with budget {budget} into {places:?} places, {}", shown(table))
         }
         Request::List { text, out } => format!("list into {} bytes\n{}", out.len(), String::from_utf8_lossy(text)),
         Request::ListWithBudget { text, budget, out } => {

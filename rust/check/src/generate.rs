@@ -1,7 +1,8 @@
 //! Cases to try: tables, budgets beside them, texts and buffers, each made from a seed and an index alone, so that a
 //! failing one can be made again. The tables lean to what goes wrong first: waiting, rings, equal ratios, keys and costs,
 //! costs that are least between the lowest speed and the top, and ends that are exactly in time or within budget, or one
-//! short of it. The budgets beside them lean to those with which a plan just stays, or just becomes another.
+//! short of it. The budgets beside them lean to those with which a plan just stays, or just becomes another, and leaves
+//! no room, or less than a cycle takes.
 
 use crate::reference::{
     plan, Hold, Job, Speed, Table, COSTS, HOLDS, JOBS, LAST_NUMBER, LAST_RESOURCE, LAST_TIME, MOST_BUDGET, MOST_COST,
@@ -68,6 +69,9 @@ pub fn table(seed: u64, index: u64) -> Table {
     make_times(random, &mut table);
     make_waiting(random, &mut table);
     table.budget = budget(random, &table);
+    if random.chance(20) {
+        make_second_chance(random, &mut table);
+    }
     if random.chance(30) {
         make_choice(random, &mut table);
     }
@@ -370,6 +374,40 @@ fn budget(random: &mut Random, table: &Table) -> u64 {
     }
 }
 
+/// Makes a job be dropped for time in its own turn and come in with another: it ends in time at the front alone, where
+/// the plan of the table so far has another; one that waits for it, is urgent, and has its turn later, having no worth,
+/// takes it there. Who is planned gets time for both.
+fn make_second_chance(random: &mut Random, table: &mut Table) {
+    let order = planned(table, table.budget).expect("a valid table");
+    let holds = &table.holds[..table.hold_count];
+    let idle = |place: usize| holds.iter().all(|hold| hold.holder != table.jobs[place].number);
+    let free = (1..=LAST_RESOURCE).find(|resource| holds.iter().all(|hold| hold.resource != *resource));
+    let mut places: Vec<usize> =
+        (0..table.job_count).filter(|place| order.first() != Some(&table.jobs[*place].number)).collect();
+    random.shuffle(&mut places);
+    let waiting = places.iter().position(|place| idle(*place)).map(|at| places.remove(at));
+    let second = places.iter().copied().find(|place| order.contains(&table.jobs[*place].number));
+    let (Some(resource), Some(waiting), Some(second)) = (free, waiting, second) else {
+        return;
+    };
+    let mhz = table.speeds[table.speed_count - 1].mhz;
+    let Job { number, cycles, .. } = table.jobs[second];
+    let in_time = table.clock + (cycles * 1000).div_ceil(mhz);
+    for job in table.jobs.iter_mut().filter(|job| order.contains(&job.number)) {
+        job.termination = (job.termination + ((cycles + 1) * 1000).div_ceil(mhz)).min(LAST_TIME);
+        if job.number == order[0] {
+            job.critical = job.critical.min(in_time - 1);
+        }
+    }
+    let job = &mut table.jobs[second];
+    (job.critical, job.termination, job.request) = (in_time, in_time, 0);
+    let job = &mut table.jobs[waiting];
+    *job = Job { cycles: 1, worth: 0, critical: 0, termination: LAST_TIME, request: resource, ..*job };
+    table.holds[table.hold_count] = Hold { resource, holder: number };
+    table.hold_count += 1;
+    table.holds[..table.hold_count].sort_by_key(|hold| hold.resource);
+}
+
 /// Leaves the plan of the table so far a choice between speeds: each of its jobs that has less time than it needs at
 /// one of them gets that much.
 fn make_choice(random: &mut Random, table: &mut Table) {
@@ -449,7 +487,8 @@ fn budget_beyond(random: &mut Random) -> u64 {
 }
 
 /// What all cycles of a plan of a good table take, often with those of a job that is not in it: at the top speed, as a
-/// trial is reckoned, or now and then at another; just that, or one unit off.
+/// trial is reckoned, or now and then at another; just that, or off by one unit, by a cycle's cost or by one unit less
+/// than that.
 fn deciding_budget(random: &mut Random, table: &Table) -> Option<u64> {
     let most = planned(table, MOST_BUDGET)?;
     let (jobs, speeds) = (&table.jobs[..table.job_count], &table.speeds[..table.speed_count]);
@@ -462,7 +501,14 @@ fn deciding_budget(random: &mut Random, table: &Table) -> Option<u64> {
         cycles += random.one_of(&outside).cycles;
     }
     let speed = if random.chance(80) { top } else { random.one_of(speeds) };
-    Some((cycles * speed.cost + random.below(3)).saturating_sub(1))
+    let exact = cycles * speed.cost;
+    Some(match random.below(10) {
+        0..=3 => exact,
+        4..=5 => exact.saturating_sub(1),
+        6 => exact + 1,
+        7..=8 => exact.saturating_sub(speed.cost),
+        _ => exact + speed.cost - 1,
+    })
 }
 
 // ---- Texts -----------------------------------------------------------------------------------------------------------
@@ -752,8 +798,8 @@ fn damage_counts(random: &mut Random, table: &mut Table) {
 
 // ---- Buffers ---------------------------------------------------------------------------------------------------------
 
-/// Two lent buffers, for the order and for the fates, shorter or longer than 64 places or just as long, full of
-/// anything.
+/// Two lent buffers, for the order and for the fates, or for the turns and for the rooms, shorter or longer than 64 places
+/// or just as long, full of anything.
 pub fn buffers(seed: u64, index: u64) -> (Vec<u64>, Vec<u64>) {
     let random = &mut Random::new(seed, index);
     let mut length = || match random.below(8) {
@@ -764,7 +810,7 @@ pub fn buffers(seed: u64, index: u64) -> (Vec<u64>, Vec<u64>) {
         4 => random.within(64, 200),
         _ => 64,
     };
-    let (order, fates) = (length(), length());
+    let (one, other) = (length(), length());
     let mut filled = |length: u64| (0..length).map(|_| random.number()).collect();
-    (filled(order), filled(fates))
+    (filled(one), filled(other))
 }

@@ -1,6 +1,6 @@
 //! The library's calls as data: what is asked, and what is told, with the buffers before and after.
 
-use crate::reference::{Plan, Refused, Table};
+use crate::reference::{Plan, Refused, Rooms, Table};
 
 /// What a call tells: number and line, both 0 where nothing is refused, and a value, which is zeros in a refusal.
 #[derive(Clone, Copy, Debug, PartialEq, Eq)]
@@ -25,6 +25,7 @@ impl<Value> Told<Value> {
 pub enum Request {
     Read { text: Vec<u8> },
     Plan { table: Box<Table>, budget: u64, order: Vec<u64>, fates: Vec<u64> },
+    Rooms { table: Box<Table>, budget: u64, turns: Vec<u64>, rooms: Vec<u64> },
     List { text: Vec<u8>, out: Vec<u8> },
     ListWithBudget { text: Vec<u8>, budget: u64, out: Vec<u8> },
     Write { table: Box<Table>, out: Vec<u8> },
@@ -37,6 +38,7 @@ pub enum Request {
 pub enum Answer {
     Table { told: Box<Told<Table>> },
     Plan { told: Told<Plan>, order: Vec<u64>, fates: Vec<u64> },
+    Rooms { told: Told<Rooms>, turns: Vec<u64>, rooms: Vec<u64> },
     Text { told: Told<usize>, out: Vec<u8> },
     Cycles { told: Told<u64> },
     Costs { told: Told<[u64; 7]> },
@@ -48,6 +50,7 @@ impl Answer {
         match self {
             Answer::Table { told } => told.number,
             Answer::Plan { told, .. } => told.number,
+            Answer::Rooms { told, .. } => told.number,
             Answer::Text { told, .. } => told.number,
             Answer::Cycles { told } => told.number,
             Answer::Costs { told } => told.number,

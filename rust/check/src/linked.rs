@@ -3,7 +3,7 @@
 use cuddlelamb::calls;
 
 use crate::library::{Answer, Request, Told};
-use crate::reference::{Hold, Job, Plan, Speed, Table};
+use crate::reference::{Hold, Job, Plan, Rooms, Speed, Table};
 
 /// The library, ready to be called.
 pub struct Library;
@@ -26,6 +26,11 @@ fn answer(request: &Request) -> Answer {
             let (mut order, mut fates) = (order.clone(), fates.clone());
             let told = told(calls::plan(&wrappers_table(table), *budget, &mut order, &mut fates), own_plan);
             Answer::Plan { told, order, fates }
+        }
+        Request::Rooms { table, budget, turns, rooms } => {
+            let (mut turns, mut rooms) = (turns.clone(), rooms.clone());
+            let told = told(calls::rooms(&wrappers_table(table), *budget, &mut turns, &mut rooms), own_rooms);
+            Answer::Rooms { told, turns, rooms }
         }
         Request::List { text, out } => {
             let mut out = out.clone();
@@ -57,6 +62,10 @@ fn told<Theirs, Own>(told: calls::Told<Theirs>, own: impl FnOnce(Theirs) -> Own)
 
 pub fn own_plan(plan: cuddlelamb::Plan) -> Plan {
     Plan { count: plan.count, speed: plan.speed, energy: plan.energy }
+}
+
+pub fn own_rooms(rooms: cuddlelamb::Rooms) -> Rooms {
+    Rooms { turns: rooms.turns, room: rooms.room }
 }
 
 pub fn own_table(table: cuddlelamb::Table) -> Table {

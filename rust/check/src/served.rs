@@ -5,7 +5,7 @@ use std::io::{Read, Write};
 use std::process::{Child, Command, Stdio};
 
 use crate::library::{Answer, Request, Told};
-use crate::reference::{Hold, Job, Plan, Speed, Table};
+use crate::reference::{Hold, Job, Plan, Rooms, Speed, Table};
 
 /// Runs what tools/c-build has made of the archive.
 const RUN: &str = concat!(env!("CARGO_MANIFEST_DIR"), "/../../tools/c-run");
@@ -63,30 +63,39 @@ fn put_request(frame: &mut Vec<u8>, request: &Request) {
         }
         Request::Plan { table, budget, order, fates } => {
             put_numbers(frame, &[2]);
-            put_table(frame, table);
-            put_numbers(frame, &[*budget, order.len() as u64, fates.len() as u64]);
-            put_numbers(frame, order);
-            put_numbers(frame, fates);
+            put_planning(frame, table, *budget, order, fates);
+        }
+        Request::Rooms { table, budget, turns, rooms } => {
+            put_numbers(frame, &[3]);
+            put_planning(frame, table, *budget, turns, rooms);
         }
         Request::List { text, out } => {
-            put_numbers(frame, &[3, text.len() as u64, out.len() as u64]);
+            put_numbers(frame, &[4, text.len() as u64, out.len() as u64]);
             frame.extend_from_slice(text);
             frame.extend_from_slice(out);
         }
         Request::ListWithBudget { text, budget, out } => {
-            put_numbers(frame, &[4, *budget, text.len() as u64, out.len() as u64]);
+            put_numbers(frame, &[5, *budget, text.len() as u64, out.len() as u64]);
             frame.extend_from_slice(text);
             frame.extend_from_slice(out);
         }
         Request::Write { table, out } => {
-            put_numbers(frame, &[5]);
+            put_numbers(frame, &[6]);
             put_table(frame, table);
             put_numbers(frame, &[out.len() as u64]);
             frame.extend_from_slice(out);
         }
-        Request::Allocate { mean, variance, assurance } => put_numbers(frame, &[6, *mean, *variance, *assurance]),
-        Request::Costs { model } => put_numbers(frame, &[7, *model]),
+        Request::Allocate { mean, variance, assurance } => put_numbers(frame, &[7, *mean, *variance, *assurance]),
+        Request::Costs { model } => put_numbers(frame, &[8, *model]),
     }
+}
+
+/// What follows the number of a call that plans into two lent buffers.
+fn put_planning(frame: &mut Vec<u8>, table: &Table, budget: u64, one: &[u64], other: &[u64]) {
+    put_table(frame, table);
+    put_numbers(frame, &[budget, one.len() as u64, other.len() as u64]);
+    put_numbers(frame, one);
+    put_numbers(frame, other);
 }
 
 fn put_table(frame: &mut Vec<u8>, table: &Table) {
@@ -138,6 +147,11 @@ impl Rest<'_> {
                 }),
                 order: self.numbers(order.len()),
                 fates: self.numbers(fates.len()),
+            },
+            Request::Rooms { turns, rooms, .. } => Answer::Rooms {
+                told: self.told(|rest| Rooms { turns: rest.number() as usize, room: rest.number() }),
+                turns: self.numbers(turns.len()),
+                rooms: self.numbers(rooms.len()),
             },
             Request::List { out, .. } | Request::ListWithBudget { out, .. } | Request::Write { out, .. } => {
                 Answer::Text { told: self.told(|rest| rest.number() as usize), out: self.bytes(out.len()) }

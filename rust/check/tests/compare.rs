@@ -1,6 +1,6 @@
 //! The library against the reference: on generated cases, on buffers of every length around what is needed, on the ends
-//! of the ranges; against the naive one on generated cases; and against itself where a change of the table must not
-//! change the plan.
+//! of the ranges; against the naive one on generated cases; and against itself: the rooms against the plan's own entries,
+//! and where a change of the table must not change the plan.
 
 use cuddlelamb_check::change::changes;
 use cuddlelamb_check::compare::{by_naive, by_reference, cases, requests_of, Expected};
@@ -80,14 +80,24 @@ fn planning(table: &Table, budget: u64, order: usize, fates: usize) -> Request {
     Request::Plan { table: Box::new(*table), budget, order: vec![7; order], fates: vec![8; fates] }
 }
 
-/// Plans into buffers of every length up to 130 places, of a good and of a bad table with a good and with a bad budget.
+/// The rooms into buffers of so many places.
+fn rooms(table: &Table, budget: u64, turns: usize, rooms: usize) -> Request {
+    Request::Rooms { table: Box::new(*table), budget, turns: vec![7; turns], rooms: vec![8; rooms] }
+}
+
+/// Plans and rooms into buffers of every length up to 130 places, of a good table with and without jobs and of a bad
+/// table, with a good and with a bad budget.
 #[test]
-fn room_for_plans() {
+fn room_for_plans_and_rooms() {
     let mut requests = Vec::new();
+    let no_jobs = Table { job_count: 0, hold_count: 0, ..table_s() };
     for length in 0..=130 {
-        for (order, fates) in [(length, 64), (64, length), (length, length)] {
-            for table in [table_s(), Table::EMPTY, Table { budget: MOST_BUDGET + 1, ..table_s() }] {
-                requests.extend([0, MOST_BUDGET + 1].map(|budget| planning(&table, budget, order, fates)));
+        for (one, other) in [(length, 64), (64, length), (length, length)] {
+            for table in [table_s(), no_jobs, Table::EMPTY, Table { budget: MOST_BUDGET + 1, ..table_s() }] {
+                for budget in [0, MOST_BUDGET, MOST_BUDGET + 1] {
+                    requests.push(planning(&table, budget, one, other));
+                    requests.push(rooms(&table, budget, one, other));
+                }
             }
         }
     }
@@ -104,7 +114,10 @@ fn one_table_and_many_budgets() {
         let all: u64 = table.jobs.iter().map(|job| job.cycles).sum();
         let steps = (0..=100).map(|step| all * top * step / 90);
         let ends = [1, MOST_BUDGET - 1, MOST_BUDGET, MOST_BUDGET + 1, 1 << 63, u64::MAX];
-        requests.extend(steps.chain(ends).map(|budget| planning(&table, budget, JOBS, JOBS)));
+        for budget in steps.chain(ends) {
+            requests.push(planning(&table, budget, JOBS, JOBS));
+            requests.push(rooms(&table, budget, JOBS, JOBS));
+        }
     }
     assert_same(&requests);
 }
@@ -154,6 +167,42 @@ fn planned(library: &mut Library, tables: &[(Table, u64)]) -> Vec<naive::Answer>
     library.answers(&requests).into_iter().zip(tables).map(plan).collect()
 }
 
+/// The library's rooms of tables with budgets beside them, which must be good.
+fn rooms_told(library: &mut Library, tables: &[(Table, u64)]) -> Vec<naive::RoomsAnswer> {
+    let requests: Vec<Request> = tables.iter().map(|(table, budget)| rooms(table, *budget, JOBS, JOBS)).collect();
+    let rooms = |(answer, (table, budget)): (Answer, &(Table, u64))| match answer {
+        Answer::Rooms { told, turns, rooms } if told.number == 0 => naive::RoomsAnswer {
+            turns: turns[..told.value.turns].to_vec(),
+            rooms: rooms[..told.value.turns].to_vec(),
+            room: told.value.room,
+        },
+        other => panic!("{other:?} with budget {budget} for\n{}", String::from_utf8_lossy(&generate::text_of(table))),
+    };
+    library.answers(&requests).into_iter().zip(tables).map(rooms).collect()
+}
+
+/// The room after the last turn and at the end is what all entries of the plan leave, by the library's other call.
+#[test]
+fn rooms_are_of_the_plan() {
+    println!("seed {SEED}");
+    let library = &mut Library::open();
+    for index in 0..5_000 {
+        let table = generate::table(SEED, index);
+        let budget = generate::budget_beside(&mut Random::new(SEED, !index), &table).min(MOST_BUDGET);
+        let plan = planned(library, &[(table, budget)]).remove(0);
+        let rooms = rooms_told(library, &[(table, budget)]).remove(0);
+        let in_plan = |number: u64| plan.order.contains(&number);
+        let jobs = table.jobs[..table.job_count].iter().filter(|job| in_plan(job.number));
+        let left = budget - jobs.map(|job| job.cycles).sum::<u64>() * table.speeds[table.speed_count - 1].cost;
+        let last = rooms.rooms.last().copied().unwrap_or(budget);
+        let text = generate::text_of(&table);
+        let shown = || format!("seed {SEED}, index {index}, budget {budget}:\n{}", String::from_utf8_lossy(&text));
+        assert_eq!((rooms.room, last), (left, left), "{}", shown());
+        assert_eq!(rooms.turns.len(), plan.fates.iter().filter(|fate| ![2, 3].contains(*fate)).count(), "{}", shown());
+    }
+}
+
+/// Nor do they change the rooms.
 #[test]
 fn changes_that_leave_the_plan() {
     println!("seed {SEED}");
@@ -164,10 +213,11 @@ fn changes_that_leave_the_plan() {
         let budget = generate::budget_beside(random, &table).min(MOST_BUDGET);
         let changes = changes(random, &table, budget);
         let changed = changes.iter().map(|change| (change.table, change.budget));
-        let plans = planned(library, &std::iter::once((table, budget)).chain(changed).collect::<Vec<_>>());
-        for (change, plan) in changes.iter().zip(&plans[1..]) {
+        let tables: Vec<(Table, u64)> = std::iter::once((table, budget)).chain(changed).collect();
+        let (plans, rooms) = (planned(library, &tables), rooms_told(library, &tables));
+        for (change, (plan, left)) in changes.iter().zip(plans[1..].iter().zip(&rooms[1..])) {
             assert!(
-                change.leaves(&table, &plans[0], plan),
+                change.leaves(&table, &plans[0], plan) && change.leaves_rooms(&table, &rooms[0], left),
                 "{}, seed {SEED}, index {index}, budget {budget}:\n{}changed, budget {}:\n{}",
                 change.what,
                 String::from_utf8_lossy(&generate::text_of(&table)),

@@ -3,13 +3,13 @@
 //! must not change the plan.
 
 use cuddlelamb_check::change::changes;
-use cuddlelamb_check::compare::{by_naive, by_reference, case};
+use cuddlelamb_check::compare::{case, cases_of_reference};
 use cuddlelamb_check::generate::{self, Random};
 use cuddlelamb_check::library::Request;
 use cuddlelamb_check::naive;
 use cuddlelamb_check::reference::{
-    allocate, costs, list, list_with_budget, plan, read, write, Hold, Plan, Refused, Speed, Table, COSTS, HOLDS, JOBS,
-    LAST_TIME, LONGEST_LISTING, LONGEST_TEXT, MOST_BUDGET, MOST_COST, MOST_WORTH, SPEEDS, SUPPLIED_SPEEDS,
+    allocate, costs, list, list_with_budget, plan, read, rooms, write, Hold, Plan, Refused, Speed, Table, COSTS, HOLDS,
+    JOBS, LAST_TIME, LONGEST_LISTING, LONGEST_TEXT, MOST_BUDGET, MOST_COST, MOST_WORTH, SPEEDS, SUPPLIED_SPEEDS,
 };
 
 /// Every generated case is made from this and an index.
@@ -417,7 +417,7 @@ fn small() -> Table {
     read(&text("T 0 0 / F 500 1 / F 1000 1 / J 5 10 1 100 100 3 / H 1 5")).expect("a good text")
 }
 
-/// Writes and plans a table that is refused: the planner, where buffers and budget are good, as the writer.
+/// Writes and plans a table that is refused, and asks its rooms: where buffers and budget are good, as the writer.
 fn assert_refused(table: &Table, number: u64, line: u64, shown: &str) {
     let (mut order, mut fates, mut out) = ([9; JOBS], [9; JOBS], [9; LONGEST_TEXT]);
     assert_eq!(write(table, &mut out), Err(refused(number, line)), "{shown}");
@@ -426,6 +426,8 @@ fn assert_refused(table: &Table, number: u64, line: u64, shown: &str) {
     for budget in [0, MOST_BUDGET] {
         assert_eq!(plan(table, budget, &mut order, &mut fates), Err(refused(number, line)), "{shown}");
         assert_eq!(naive::plan_into(table, budget, &mut order, &mut fates), Err(refused(number, line)), "{shown}");
+        assert_eq!(rooms(table, budget, &mut order, &mut fates), Err(refused(number, line)), "{shown}");
+        assert_eq!(naive::rooms_into(table, budget, &mut order, &mut fates), Err(refused(number, line)), "{shown}");
     }
     assert_eq!((order, fates, out), ([9; JOBS], [9; JOBS], [9; LONGEST_TEXT]));
 }
@@ -528,7 +530,8 @@ fn room_for_the_listing() {
     }
 }
 
-/// The buffers come first, then the budget beside the table, then the table, whose first record has its own budget.
+/// The buffers come first, then the budget beside the table, then the table, whose first record has its own budget; for
+/// the rooms too.
 #[test]
 fn the_order_of_a_plans_refusals() {
     let tables = [small(), Table::EMPTY, Table { budget: MOST_BUDGET + 1, ..small() }];
@@ -549,8 +552,11 @@ fn the_order_of_a_plans_refusals() {
         {
             let expected = expected(order, fates, budget, table);
             let (mut order, mut fates) = (vec![9; order], vec![9; fates]);
+            let (mut turns, mut left) = (order.clone(), fates.clone());
             assert_eq!(plan(table, budget, &mut order, &mut fates).err(), expected);
-            assert!(expected.is_none() || order.iter().chain(&fates).all(|place| *place == 9));
+            assert_eq!(rooms(table, budget, &mut turns, &mut left).err(), expected);
+            let places = [&order, &fates, &turns, &left];
+            assert!(expected.is_none() || places.into_iter().flatten().all(|place| *place == 9));
         }
     }
 }
@@ -723,6 +729,14 @@ fn rough_tables_against_the_naive() {
 fn planned(table: &Table, budget: u64) -> naive::Answer {
     let (plan, order, fates) = answer_with_budget(table, budget);
     naive::Answer { plan, order, fates }
+}
+
+/// The rooms of a table, in the form of the naive one.
+fn rooms_told(table: &Table, budget: u64) -> naive::RoomsAnswer {
+    let (mut turns, mut left) = ([77; JOBS], [77; JOBS]);
+    let told = rooms(table, budget, &mut turns, &mut left).expect("a good table and budget");
+    let [turns, rooms] = [turns, left].map(|places| places[..told.turns].to_vec());
+    naive::RoomsAnswer { turns, rooms, room: told.room }
 }
 
 /// A generated table with its own budget, or with another one that is good.
@@ -913,16 +927,9 @@ fn listings_against_the_naive() {
 #[test]
 fn cases_against_the_naive() {
     println!("seed {SEED}");
-    let mut numbers = [0; 11];
-    for index in 0..10_000 {
-        for request in case(SEED, index) {
-            let answer = by_reference(&request);
-            assert_eq!(answer, by_naive(&request), "seed {SEED}, index {index}: {request:?}");
-            numbers[answer.number() as usize] += 1;
-        }
-    }
-    println!("answers by number, 0 for none refused: {numbers:?}");
-    assert!(numbers.iter().all(|count| *count > 100), "{numbers:?}");
+    let tally = cases_of_reference(SEED, 0, 10_000).unwrap_or_else(|difference| panic!("{difference}"));
+    println!("{} calls, answers by number, 0 for none refused: {:?}", tally.calls, tally.numbers);
+    assert!(tally.numbers.iter().all(|count| *count > 100), "{tally:?}");
 }
 
 // ---- Reading once, planning often ------------------------------------------------------------------------------------
@@ -1063,7 +1070,7 @@ type Reading = fn(&Table, u64, bool) -> Result<u64, Refused>;
 const AS_WRITTEN: Reading =
     |table, budget, has_room| check_room(has_room).and(check_budget(budget)).and(check_records(table)).and(Ok(budget));
 
-/// How the call that plans can be misread.
+/// How a call that plans can be misread, be it for the plan or for the rooms.
 const PLANNING_MISREAD: [(&str, Reading); 8] = [
     ("the budget is checked before the room", |table, budget, has_room| {
         check_budget(budget).and(check_room(has_room)).and(check_records(table)).and(Ok(budget))
@@ -1092,12 +1099,17 @@ const PLANNING_MISREAD: [(&str, Reading); 8] = [
     }),
 ];
 
-/// Whether two readings answer differently: with different refusals, or with different plans.
-fn plans_differ(table: &Table, one: Result<u64, Refused>, other: Result<u64, Refused>) -> bool {
-    match (one, other) {
-        (Ok(one), Ok(other)) => one != other && planned(table, one) != planned(table, other),
-        _ => one != other,
-    }
+/// Which misreadings answer a call that plans differently: with another refusal, or with what another budget gives.
+fn planning_misread<Given: PartialEq>(
+    (table, budget, one, other): (&Table, u64, &[u64], &[u64]),
+    given: impl Fn(u64) -> Given,
+) -> [bool; PLANNING_MISREAD.len()] {
+    let has_room = one.len() >= JOBS && other.len() >= JOBS;
+    let right = AS_WRITTEN(table, budget, has_room);
+    PLANNING_MISREAD.map(|(_, misread)| match (right, misread(table, budget, has_room)) {
+        (Ok(right), Ok(misread)) => right != misread && given(right) != given(misread),
+        (right, misread) => right != misread,
+    })
 }
 
 /// The listing that a reading gives for a text and the budget beside it.
@@ -1121,56 +1133,67 @@ const LISTING_MISREAD: [(&str, ListingRead); 3] = [
     }),
 ];
 
-const BUDGET_MISREADINGS: usize = PLANNING_MISREAD.len() + LISTING_MISREAD.len();
+/// Which misreadings answer a call differently: of the call that plans, of the one for the rooms, of the one that lists.
+#[derive(Default)]
+struct FoundOut {
+    plan: [bool; PLANNING_MISREAD.len()],
+    rooms: [bool; PLANNING_MISREAD.len()],
+    listing: [bool; LISTING_MISREAD.len()],
+}
 
-/// Which misreadings answer a call differently.
-fn found_out_by(request: &Request) -> [bool; BUDGET_MISREADINGS] {
-    let mut found_out = [false; BUDGET_MISREADINGS];
-    match request {
-        Request::Plan { table, budget, order, fates } => {
-            let has_room = order.len() >= JOBS && fates.len() >= JOBS;
-            let right = AS_WRITTEN(table, *budget, has_room);
-            for (found, (_, misread)) in found_out.iter_mut().zip(PLANNING_MISREAD) {
-                *found = plans_differ(table, right, misread(table, *budget, has_room));
+impl FoundOut {
+    fn by(request: &Request) -> FoundOut {
+        let none = FoundOut::default();
+        match request {
+            Request::Plan { table, budget, order, fates } => {
+                let call = (&**table, *budget, &order[..], &fates[..]);
+                FoundOut { plan: planning_misread(call, |budget| planned(table, budget)), ..none }
             }
-        }
-        Request::ListWithBudget { text, budget, out } => {
-            let listed = |listing: Vec<u8>| (listing.len() <= out.len()).then_some(listing);
-            let right = listed(naive::list_with_budget(text, *budget));
-            for (found, (_, misread)) in found_out[PLANNING_MISREAD.len()..].iter_mut().zip(LISTING_MISREAD) {
-                *found = listed(misread(text, *budget)) != right;
+            Request::Rooms { table, budget, turns, rooms } => {
+                let call = (&**table, *budget, &turns[..], &rooms[..]);
+                FoundOut { rooms: planning_misread(call, |budget| rooms_told(table, budget)), ..none }
             }
+            Request::ListWithBudget { text, budget, out } => {
+                let listed = |listing: Vec<u8>| (listing.len() <= out.len()).then_some(listing);
+                let right = listed(naive::list_with_budget(text, *budget));
+                FoundOut { listing: LISTING_MISREAD.map(|misread| listed(misread.1(text, *budget)) != right), ..none }
+            }
+            _ => none,
         }
-        _ => (),
     }
-    found_out
+
+    fn all(&self) -> Vec<bool> {
+        [&self.plan[..], &self.rooms, &self.listing].concat()
+    }
 }
 
 /// The cases on which the library is compared tell each misreading of the budget from the right one.
 #[test]
 fn misreadings_of_the_budget_are_found_out() {
     println!("seed {SEED}");
-    let mut counts = [0; BUDGET_MISREADINGS];
-    for index in 0..20_000 {
-        let calls: Vec<_> = case(SEED, index).iter().map(found_out_by).collect();
+    let mut counts = vec![0; FoundOut::default().all().len()];
+    for index in 0..10_000 {
+        let calls: Vec<_> = case(SEED, index).iter().map(|request| FoundOut::by(request).all()).collect();
         for (misreading, count) in counts.iter_mut().enumerate() {
             *count += u64::from(calls.iter().any(|found_out| found_out[misreading]));
         }
     }
-    println!("of 20000 cases, another answer is given where");
-    let names = PLANNING_MISREAD.iter().map(|misread| misread.0).chain(LISTING_MISREAD.iter().map(|misread| misread.0));
-    names.zip(counts).for_each(|(name, count)| println!("{name}: {count}"));
+    println!("of 10000 cases, another answer is given, to the call that plans, then to the one for the rooms, where");
+    let planning = PLANNING_MISREAD.map(|misread| misread.0);
+    let names = [&planning[..], &planning, &LISTING_MISREAD.map(|misread| misread.0)].concat();
+    names.iter().zip(&counts).for_each(|(name, count)| println!("{name}: {count}"));
     assert!(counts.iter().all(|count| *count > 200), "{counts:?}");
 }
 
 // ---- Changes that must not change the plan ---------------------------------------------------------------------------
 
+/// Nor do they change the rooms.
 #[test]
 fn changes_that_leave_the_plan() {
     println!("seed {SEED}");
     for index in 0..20_000 {
         let (table, budget) = table_and_budget(index);
-        let plan = planned(&table, budget);
+        let (plan, rooms) = (planned(&table, budget), rooms_told(&table, budget));
         for change in changes(&mut Random::new(SEED, !index), &table, budget) {
             let mut out = [0; LONGEST_TEXT];
             let of = |table: &Table, budget| shown_with_budget(index / 2, table, budget);
@@ -1179,6 +1202,8 @@ fn changes_that_leave_the_plan() {
             let good = write(&change.table, &mut out).is_ok() && change.budget <= MOST_BUDGET;
             assert!(good, "{} makes a bad table or budget", show());
             assert!(change.leaves(&table, &plan, &planned(&change.table, change.budget)), "{}", show());
+            let changed_rooms = rooms_told(&change.table, change.budget);
+            assert!(change.leaves_rooms(&table, &rooms, &changed_rooms), "{}", show());
         }
     }
 }

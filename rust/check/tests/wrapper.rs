@@ -1,9 +1,9 @@
-//! The wrapper's seven calls, with their `Result`, against the reference. Nothing is here where nothing is linked.
+//! The wrapper's eight calls, with their `Result`, against the reference. Nothing is here where nothing is linked.
 #![cfg(any(target_arch = "x86_64", feature = "native"))]
 
 use cuddlelamb_check::compare::case;
 use cuddlelamb_check::library::Request;
-use cuddlelamb_check::linked::{own_plan, own_table, wrappers_table};
+use cuddlelamb_check::linked::{own_plan, own_rooms, own_table, wrappers_table};
 use cuddlelamb_check::reference::{self, Refused, LONGEST_LISTING, LONGEST_TEXT};
 
 /// Every generated case is made from this and an index.
@@ -26,6 +26,13 @@ fn assert_same(request: &Request) {
             let given = cuddlelamb::plan(&wrappers_table(table), *budget, &mut lent.0, &mut lent.1);
             let expected = reference::plan(table, *budget, &mut other.0, &mut other.1);
             assert_eq!(given.map_err(refused).map(own_plan), expected, "{request:?}");
+            assert_eq!(lent, other, "{request:?}");
+        }
+        Request::Rooms { table, budget, turns, rooms } => {
+            let (mut lent, mut other) = ((turns.clone(), rooms.clone()), (turns.clone(), rooms.clone()));
+            let given = cuddlelamb::rooms(&wrappers_table(table), *budget, &mut lent.0, &mut lent.1);
+            let expected = reference::rooms(table, *budget, &mut other.0, &mut other.1);
+            assert_eq!(given.map_err(refused).map(own_rooms), expected, "{request:?}");
             assert_eq!(lent, other, "{request:?}");
         }
         Request::List { text, out } => {

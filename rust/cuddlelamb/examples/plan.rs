@@ -1,6 +1,7 @@
 //! Reads a table once and plans it with each budget named: plan FILE [BUDGET ..], where FILE - is standard input. Without
-//! a budget it takes the table's own. It prints what examples/plan.c prints: the plans and the fates, the listings, then
-//! what a call says that refuses, an allocation and a cost table. On standard error it says refusals and fates in words.
+//! a budget it takes the table's own. It prints what examples/plan.c prints: the plans with the fates and the rooms, the
+//! listings, then what a call says that refuses, an allocation and a cost table. On standard error it says refusals and
+//! fates in words.
 //! Exit status: 1 where the table or a budget was refused; 2 where there is no table to read, where a budget is no
 //! number, and where the output cannot be written. A Rust program takes a closed standard stream for /dev/null.
 
@@ -88,14 +89,13 @@ fn places(places: &[u64]) -> String {
     places.iter().map(|place| format!(" {place}")).collect()
 }
 
-/// A plan for each budget, or one for the table's own where none is named; whether none was refused.
+/// Plan and rooms for each budget, or for the table's own where none is named; whether none was refused.
 fn print_plans(out: &mut impl Write, table: &Table, budgets: &[u64]) -> io::Result<bool> {
-    if budgets.is_empty() {
-        return print_plan(out, table, table.budget);
-    }
+    let own = [table.budget];
     let mut good = true;
-    for budget in budgets {
+    for budget in if budgets.is_empty() { &own } else { budgets } {
         good &= print_plan(out, table, *budget)?;
+        good &= print_rooms(out, table, *budget)?;
     }
     Ok(good)
 }
@@ -120,6 +120,23 @@ fn print_plan(out: &mut impl Write, table: &Table, budget: u64) -> io::Result<bo
             Ok(Fate::Planned) | Err(_) => (),
             Ok(why) => eprintln!("job {}: {why}", job.number),
         }
+    }
+    Ok(true)
+}
+
+/// How much of one budget the plan leaves at top cost, after each turn and at the end, or its refusal.
+fn print_rooms(out: &mut impl Write, table: &Table, budget: u64) -> io::Result<bool> {
+    let (mut turns, mut rooms) = ([0; JOBS], [0; JOBS]);
+    let told = match cuddlelamb::rooms(table, budget, &mut turns, &mut rooms) {
+        Ok(told) => told,
+        Err(refused) => {
+            writeln!(out, "rooms with budget {budget}: {}", numbers(refused))?;
+            return Ok(false);
+        }
+    };
+    writeln!(out, "rooms with budget {budget}: {} turns, {} units left", told.turns, told.room)?;
+    for (job, room) in turns.iter().zip(rooms).take(told.turns) {
+        writeln!(out, "after the turn of job {job}: {room}")?;
     }
     Ok(true)
 }

@@ -1,4 +1,4 @@
-//! The seven calls as the archive answers them, in numbers: the one module with unsafe code. include/cuddlelamb.h is what
+//! The eight calls as the archive answers them, in numbers: the one module with unsafe code. include/cuddlelamb.h is what
 //! it leans on. Its functions are safe to call; those at the top of the crate say the same with a `Result`.
 //!
 //! What the calls ask of a buffer, a slice of Rust is: its pointer is never null and is aligned, also where it is empty;
@@ -8,7 +8,7 @@
 
 use std::mem::{align_of, offset_of, size_of};
 
-use crate::{Hold, Job, Plan, Refused, Speed, Table, COSTS};
+use crate::{Hold, Job, Plan, Refused, Rooms, Speed, Table, COSTS};
 
 /// What a call tells: number and line, both 0 where nothing is refused, and a value, which is zeros in a refusal.
 #[repr(C)]
@@ -49,6 +49,8 @@ const _: () = {
     assert!(offset_of!(Plan, speed) == 8 && offset_of!(Plan, energy) == 16);
     assert!(size_of::<Told<Plan>>() == 40 && offset_of!(Told<Plan>, value) == 16);
     assert!(offset_of!(Told<Plan>, number) == 0 && offset_of!(Told<Plan>, line) == 8);
+    assert!(size_of::<Rooms>() == 16 && offset_of!(Rooms, turns) == 0 && offset_of!(Rooms, room) == 8);
+    assert!(size_of::<Told<Rooms>>() == 32 && offset_of!(Told<Rooms>, value) == 16);
     assert!(size_of::<Told<usize>>() == 24 && size_of::<Told<u64>>() == 24);
     assert!(size_of::<Told<Table>>() == 3896 && offset_of!(Told<Table>, value) == 16);
     assert!(size_of::<Told<[u64; COSTS]>>() == 72 && offset_of!(Told<[u64; COSTS]>, value) == 16);
@@ -64,6 +66,14 @@ extern "C" {
         fates: *mut u64,
         fates_length: usize,
     ) -> Told<Plan>;
+    fn cuddlelamb_rooms(
+        table: Table,
+        budget: u64,
+        turns: *mut u64,
+        turns_length: usize,
+        rooms: *mut u64,
+        rooms_length: usize,
+    ) -> Told<Rooms>;
     fn cuddlelamb_list(text: *const u8, text_length: usize, out: *mut u8, out_length: usize) -> Told<usize>;
     fn cuddlelamb_list_with_budget(
         text: *const u8,
@@ -90,6 +100,14 @@ pub fn plan(table: &Table, budget: u64, order: &mut [u64], fates: &mut [u64]) ->
     // SAFETY: each pointer and its length are those of a slice that is lent as `&mut`; the table is a copy, and it and
     // the budget may hold any numbers.
     unsafe { cuddlelamb_plan(*table, budget, order, order_length, fates, fates_length) }
+}
+
+/// See [`rooms`](crate::rooms).
+pub fn rooms(table: &Table, budget: u64, turns: &mut [u64], rooms: &mut [u64]) -> Told<Rooms> {
+    let (turns, turns_length) = (turns.as_mut_ptr(), turns.len());
+    let (rooms, rooms_length) = (rooms.as_mut_ptr(), rooms.len());
+    // SAFETY: as for `plan`: two slices that are lent as `&mut`, a copy of the table, and any numbers.
+    unsafe { cuddlelamb_rooms(*table, budget, turns, turns_length, rooms, rooms_length) }
 }
 
 /// See [`list`](crate::list).

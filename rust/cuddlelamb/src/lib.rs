@@ -17,8 +17,24 @@
 //! # Ok::<(), Refused>(())
 //! ```
 //!
-//! Seven calls: [`read`], [`plan`], [`list`], [`list_with_budget`], [`write()`], [`allocate`] and [`costs`]. What each
-//! keeps:
+//! How much of the budget the plan leaves at top cost is told after each job's turn:
+//!
+//! ```
+//! # use cuddlelamb::{Refused, JOBS};
+//! # let text = b"T\t0\t99\nF\t1000\t1\nJ\t7\t10\t5\t400\t400\t0\nJ\t8\t20\t4\t500\t500\t0\n";
+//! # let table = cuddlelamb::read(text)?;
+//! let (mut turns, mut rooms) = ([0; JOBS], [0; JOBS]);
+//! let told = cuddlelamb::rooms(&table, table.budget, &mut turns, &mut rooms)?;
+//! for (job, room) in turns.iter().zip(rooms).take(told.turns) {
+//!     println!("after the turn of job {job}: {room} units");
+//! }
+//! println!("at the end: {} units", told.room);
+//! # assert_eq!((&turns[..told.turns], &rooms[..told.turns], told.room), (&[7, 8][..], &[89, 69][..], 69));
+//! # Ok::<(), Refused>(())
+//! ```
+//!
+//! Eight calls: [`read`], [`plan`], [`rooms`], [`list`], [`list_with_budget`], [`write()`], [`allocate`] and [`costs`].
+//! What each keeps:
 //!
 //! - It takes any bytes, any numbers and any lengths, and does not panic.
 //! - A refusal names its number and the line it means; no byte and no place of a lent buffer has then changed.
@@ -44,7 +60,7 @@ mod named;
 mod table;
 
 pub use named::{Fate, Refusal, Refused, Unnamed};
-pub use table::{Hold, Job, Plan, Speed, Table, COSTS, HOLDS, JOBS, LISTING, SPEEDS, SUPPLIED_SPEEDS, TEXT};
+pub use table::{Hold, Job, Plan, Rooms, Speed, Table, COSTS, HOLDS, JOBS, LISTING, SPEEDS, SUPPLIED_SPEEDS, TEXT};
 
 /// Reads a text: the table has the text's records, in their order, and 0 in every unused place.
 ///
@@ -69,6 +85,23 @@ pub fn read(text: &[u8]) -> Result<Table, Refused> {
 /// records, which counts the table's own budget in.
 pub fn plan(table: &Table, budget: u64, order: &mut [u64], fates: &mut [u64]) -> Result<Plan, Refused> {
     calls::plan(table, budget, order, fates).result()
+}
+
+/// Plans a table as [`plan`] does and tells how much room is left after each turn: the budget given beside the table less
+/// what all cycles of the plan, as it then stands, cost at the last F. Each job that is neither late alone nor taken out of
+/// a ring has a turn. The first places of `turns`, as many as [`Rooms::turns`] says, become these jobs' numbers in the
+/// order of their turns, and as many of `rooms` the room after each; all places after them become 0.
+///
+/// A turn in which nothing comes into the plan leaves the room as it was, be it that the job is planned already, that its
+/// chain gives no worth, or that it would be out of time or of budget.
+///
+/// # Errors
+///
+/// As for [`plan`], in the same order: [`Refusal::NoRoom`], line 0, where `turns` or `rooms` has fewer than [`JOBS`]
+/// places; [`Refusal::OutOfRange`], line 1, where the budget is above 10^15; then the table is refused as [`write()`]
+/// refuses its records.
+pub fn rooms(table: &Table, budget: u64, turns: &mut [u64], rooms: &mut [u64]) -> Result<Rooms, Refused> {
+    calls::rooms(table, budget, turns, rooms).result()
 }
 
 /// Plans a text with its own budget, writes the listing to the front of `out` and gives its length; [`LISTING`] bytes are

@@ -1,8 +1,8 @@
-//! Tables and plans, laid out as the structs of include/cuddlelamb.h.
+//! Tables, plans and rooms, laid out as the structs of include/cuddlelamb.h.
 
 /// Places for F lines in a table.
 pub const SPEEDS: usize = 16;
-/// Places for J lines in a table, and the least length of an order or fate buffer.
+/// Places for J lines in a table, and the least length of an order, fate, turn or room buffer.
 pub const JOBS: usize = 64;
 /// Places for H lines in a table.
 pub const HOLDS: usize = 32;
@@ -63,7 +63,8 @@ pub struct Hold {
 pub struct Table {
     /// 0..=1,000,000,000 ms.
     pub clock: u64,
-    /// 0..=10^15 units. [`plan`](crate::plan) checks it and then plans with the budget given beside the table.
+    /// 0..=10^15 units. [`plan`](crate::plan) and [`rooms`](crate::rooms) check it and then plan with the budget given
+    /// beside the table.
     pub budget: u64,
     /// How many F lines.
     pub speed_count: usize,
@@ -110,4 +111,14 @@ pub struct Plan {
     pub speed: u64,
     /// Units: what all planned cycles cost at this speed.
     pub energy: u64,
+}
+
+/// What the rooms are beside the rows of the turns.
+#[repr(C)]
+#[derive(Clone, Copy, Debug, Default, PartialEq, Eq, Hash)]
+pub struct Rooms {
+    /// How many jobs had a turn: all that are neither late alone nor taken out of a ring.
+    pub turns: usize,
+    /// Units: what the plan leaves of the budget at the end, at top cost; where nothing is planned, the whole budget.
+    pub room: u64,
 }

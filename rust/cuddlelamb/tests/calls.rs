@@ -6,8 +6,8 @@ use std::mem::size_of;
 
 use cuddlelamb::calls::Told;
 use cuddlelamb::{
-    allocate, costs, list, list_with_budget, plan, read, write, Fate, Hold, Job, Plan, Refusal, Refused, Speed, Table,
-    Unnamed, COSTS, HOLDS, JOBS, LISTING, SPEEDS, SUPPLIED_SPEEDS, TEXT,
+    allocate, costs, list, list_with_budget, plan, read, rooms, write, Fate, Hold, Job, Plan, Refusal, Refused, Rooms,
+    Speed, Table, Unnamed, COSTS, HOLDS, JOBS, LISTING, SPEEDS, SUPPLIED_SPEEDS, TEXT,
 };
 
 /// The text of the sheet's case S.
@@ -64,6 +64,37 @@ fn a_plan_of_a_table_put_together_by_hand() {
     let energy = 2_500_000_000;
     assert_eq!(plan(&table, energy, &mut order, &mut fates), Ok(Plan { count: 3, speed: 1000, energy }));
     assert_eq!((&order[..4], &fates[..6]), (&[3, 2, 1, 0][..], &[1, 1, 1, 5, 2, 0][..]));
+}
+
+/// Job 2 brings job 3 in, which is then passed over; job 4 is dropped, and with a unit less job 1 is too; job 5 is late.
+#[test]
+fn rooms_after_each_turn() {
+    let table = table_s();
+    let cases = [
+        (2_500_000_000, [1_000_000_000, 0, 0, 0]),
+        (2_499_999_999, [999_999_999; 4]),
+        (0, [0; 4]),
+        (MOST_BUDGET, [1_500_000_000, 2_500_000_000, 2_500_000_000, 2_500_000_000].map(|taken| MOST_BUDGET - taken)),
+    ];
+    for (budget, expected) in cases {
+        let (mut turns, mut left) = ([77; JOBS + 3], [77; JOBS]);
+        let told = rooms(&table, budget, &mut turns, &mut left);
+        assert_eq!(told, Ok(Rooms { turns: 4, room: expected[3] }));
+        assert_eq!((&turns[..4], &left[..4]), (&[2, 1, 3, 4][..], &expected[..]));
+        assert!(turns[4..].iter().chain(&left[4..]).all(|place| *place == 0));
+    }
+    assert_eq!(Ok(table), read(CASE_S));
+}
+
+/// No jobs, or none but late ones.
+#[test]
+fn rooms_without_a_turn() {
+    let no_jobs = Table { job_count: 0, hold_count: 0, ..table_s() };
+    for table in [no_jobs, Table { clock: 4000, job_count: 2, ..no_jobs }] {
+        let (mut turns, mut left) = ([77; JOBS], [77; JOBS + 1]);
+        assert_eq!(rooms(&table, 7, &mut turns, &mut left), Ok(Rooms { turns: 0, room: 7 }));
+        assert_eq!((turns, left), ([0; JOBS], [0; JOBS + 1]));
+    }
 }
 
 #[test]
@@ -139,15 +170,16 @@ fn refusals_of_texts() {
     }
 }
 
-/// Plans and writes a table that is refused, and looks at the lent buffers, which must be as they were.
+/// Plans and writes a table that is refused, and asks its rooms; the lent buffers must be as they were.
 fn assert_refused(table: &Table, refusal: Refusal, line: u64) {
     let (mut order, mut fates, mut out) = ([7; JOBS], [8; JOBS], [9; TEXT]);
     assert_eq!(plan(table, 0, &mut order, &mut fates), refused(refusal, line));
+    assert_eq!(rooms(table, 0, &mut order, &mut fates), refused(refusal, line));
     assert_eq!(write(table, &mut out), refused(refusal, line));
     assert_eq!((order, fates, out), ([7; JOBS], [8; JOBS], [9; TEXT]));
 }
 
-/// Each refusal of a table, by the planner and by the writer.
+/// Each refusal of a table, by the calls that plan and by the writer.
 #[test]
 fn refusals_of_tables() {
     let table = table_s();
@@ -175,22 +207,25 @@ fn refusals_of_tables() {
     }
 }
 
-/// The lent buffers come first, then the budget beside the table, then the table.
+/// The lent buffers come first, then the budget beside the table, then the table; for the rooms too.
 #[test]
 fn the_order_of_a_plans_refusals() {
     for table in [table_s(), Table::default()] {
-        for (order, fates) in [(JOBS - 1, JOBS), (JOBS, JOBS - 1), (0, 0)] {
-            let (mut order, mut fates) = (vec![7; order], vec![8; fates]);
-            assert_eq!(plan(&table, MOST_BUDGET + 1, &mut order, &mut fates), refused(Refusal::NoRoom, 0));
-            assert!(order.iter().all(|place| *place == 7) && fates.iter().all(|place| *place == 8));
+        for (one, other) in [(JOBS - 1, JOBS), (JOBS, JOBS - 1), (0, 0)] {
+            let (mut one, mut other) = (vec![7; one], vec![8; other]);
+            assert_eq!(plan(&table, MOST_BUDGET + 1, &mut one, &mut other), refused(Refusal::NoRoom, 0));
+            assert_eq!(rooms(&table, MOST_BUDGET + 1, &mut one, &mut other), refused(Refusal::NoRoom, 0));
+            assert!(one.iter().all(|place| *place == 7) && other.iter().all(|place| *place == 8));
         }
         for budget in [MOST_BUDGET + 1, u64::MAX] {
-            let (mut order, mut fates) = ([7; JOBS], [8; JOBS]);
-            assert_eq!(plan(&table, budget, &mut order, &mut fates), refused(Refusal::OutOfRange, 1));
-            assert_eq!((order, fates), ([7; JOBS], [8; JOBS]));
+            let (mut one, mut other) = ([7; JOBS], [8; JOBS]);
+            assert_eq!(plan(&table, budget, &mut one, &mut other), refused(Refusal::OutOfRange, 1));
+            assert_eq!(rooms(&table, budget, &mut one, &mut other), refused(Refusal::OutOfRange, 1));
+            assert_eq!((one, other), ([7; JOBS], [8; JOBS]));
         }
     }
     assert!(plan(&table_s(), MOST_BUDGET, &mut [0; JOBS], &mut [0; JOBS]).is_ok());
+    assert!(rooms(&table_s(), MOST_BUDGET, &mut [0; JOBS], &mut [0; JOBS]).is_ok());
 }
 
 #[test]
@@ -208,6 +243,7 @@ fn threads() {
     std::thread::scope(|scope| {
         for _ in 0..8 {
             scope.spawn(|| (0..200).for_each(|_| plans_and_their_fates()));
+            scope.spawn(|| (0..200).for_each(|_| rooms_after_each_turn()));
         }
     });
 }
@@ -259,6 +295,7 @@ fn the_headers_sizes() {
         ("hold", size_of::<Hold>()),
         ("table", size_of::<Table>()),
         ("plan_answer", size_of::<Told<Plan>>()),
+        ("rooms_answer", size_of::<Told<Rooms>>()),
         ("text_answer", size_of::<Told<usize>>()),
         ("table_answer", size_of::<Told<Table>>()),
         ("cycles_answer", size_of::<Told<u64>>()),
@@ -275,7 +312,7 @@ fn the_headers_sizes() {
 fn the_headers_calls() {
     let calls: Vec<&str> =
         HEADER.split("_answer cuddlelamb_").skip(1).filter_map(|rest| rest.split('(').next()).collect();
-    assert_eq!(calls, ["read", "plan", "list", "list_with_budget", "write", "allocate", "costs"]);
+    assert_eq!(calls, ["read", "plan", "rooms", "list", "list_with_budget", "write", "allocate", "costs"]);
 }
 
 #[test]

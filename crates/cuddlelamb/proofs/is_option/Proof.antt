@@ -1,4 +1,4 @@
--- `cuddlelamb::is_option` is safe and ends: the option is shorter than the buffer. Assumes nothing.
+-- `cuddlelamb::is_option` is safe and ends: an option is shorter than the buffer. Assumes nothing.
 use Prim.Native.Nat.{_-_, _≤_}
 use native.Mathlib.Omega.{arith}
 use borrow.Author.Needs.{needs}
@@ -6,10 +6,10 @@ use Rattle.cuddlelamb.proofs.is_option.Statement.{statement}
 use Rattle.cuddlelamb.proofs.is_option.Tie as tie
 
 abbrev Inv-loop : tie.InvT-loop
-Inv-loop buffer i₀ i = i ≤ 9
+Inv-loop buffer wanted i₀ i = i ≤ 9
 
 abbrev μ-loop : tie.MeasureT-loop
-μ-loop buffer i₀ i = 9 - i
+μ-loop buffer wanted i₀ i = 9 - i
 
 loop-holds : tie.Need-loop-holds Inv-loop μ-loop
 loop-holds c = search needs

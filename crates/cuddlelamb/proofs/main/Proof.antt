@@ -12,6 +12,12 @@ came c =
     let input = c .before .before .before .read-input in
     bytes-counted (input .last .0) (input .result) (c .read .given .0 .0) (c .read .given .1) (input .ensures)
 
+option-at-requires : tie.Need-option-at-requires
+option-at-requires c κs = search needs
+
+budget-place-requires : tie.Need-budget-place-requires
+budget-place-requires c κs = search needs
+
 budget-asked-requires : tie.Need-budget-asked-requires
 budget-asked-requires c κs = search needs
 
@@ -51,11 +57,11 @@ returns-2 c = search needs
 array-share-prefix-text : tie.Need-array-share-prefix-text
 array-share-prefix-text c = came (c .before) .0
 
-slice-aggregate-print-listing : tie.Need-slice-aggregate-print-listing
-slice-aggregate-print-listing c = came (c .before .before) .1
+slice-aggregate-print-asked : tie.Need-slice-aggregate-print-asked
+slice-aggregate-print-asked c = came (c .before .before) .1
 
-print-listing-requires : tie.Need-print-listing-requires
-print-listing-requires c κs = search needs
+print-asked-requires : tie.Need-print-asked-requires
+print-asked-requires c κs = search needs
 
 enum-known-asked : tie.Need-enum-known-asked
 enum-known-asked c = search needs
@@ -79,6 +85,8 @@ pub main-spec : {M : Type 1} → statement M
 main-spec =
     tie.close
     (tie.spec
+    option-at-requires
+    budget-place-requires
     budget-asked-requires
     enum-told
     slice-aggregate-write-all
@@ -92,8 +100,8 @@ main-spec =
     fail-requires
     returns-2
     array-share-prefix-text
-    slice-aggregate-print-listing
-    print-listing-requires
+    slice-aggregate-print-asked
+    print-asked-requires
     enum-known-asked
     array-share-prefix-text-2
     slice-aggregate-tell-budget

@@ -1,12 +1,14 @@
 -- `digits::rows_length` counts the bytes of rows. At each place, what is counted and the lines left behind it make the whole,
 -- whatever the letter; all of them have at most 23 bytes a number, so that no sum wraps. Assumes nothing.
 use mathlib.Core.List.{List}
-use mathlib.Core.Path.{_≡_, refl}
+use mathlib.Core.Path.{_≡_}
 use Prim.Native.Nat.{ℕ, _+_, _-_, _≤_}
 use native.Mathlib.Omega.{arith}
 use lib.ListN.{length, drop}
-use Rattle.digits.proofs.Rows.{length-row-at, no-row-from, row-lines-length}
+use Rattle.digits.proofs.LinesOfRows.{length-row-at, linesOfRows, no-line-from}
+use Rattle.digits.proofs.Rows.{row-lines-length}
 use Rattle.digits.specs.Rows.{rowLines}
+use Rattle.rules.specs.TableText.{lineText}
 use borrow.Author.Needs.{needs}
 use Rattle.digits.proofs.rows_length.Statement.{statement}
 use Rattle.digits.proofs.rows_length.Tie as tie
@@ -14,7 +16,9 @@ use Rattle.digits.proofs.rows_length.Tie as tie
 abbrev Inv-loop : tie.InvT-loop
 Inv-loop numbers fields bytes₀ counted₀ bytes counted =
     (counted ≤ length numbers)
-    × ((letter : ℕ) → bytes + length (rowLines letter fields (drop counted numbers)) ≡ length (rowLines letter fields numbers))
+    × ((letter : ℕ)
+    → bytes + length (linesOfRows (lineText letter) fields (drop counted numbers))
+    ≡ length (linesOfRows (lineText letter) fields numbers))
 
 abbrev μ-loop : tie.MeasureT-loop
 μ-loop numbers fields bytes₀ counted₀ bytes counted = length numbers - counted
@@ -28,12 +32,12 @@ fields c = c .before .before .before .before .before .args .fields
 -- the line that was counted, and the lines behind it
 line-counted : (c : tie.After-line-length Inv-loop μ-loop) (letter : ℕ)
     → let l = c .before .before .before .loop in
-    l .bytes + c .line-length .result + length (rowLines letter (fields c) (drop (l .counted + fields c) (numbers c)))
-    ≡ length (rowLines letter (fields c) (numbers c))
+    l .bytes + c .line-length .result + length (linesOfRows (lineText letter) (fields c) (drop (l .counted + fields c) (numbers c)))
+    ≡ length (linesOfRows (lineText letter) (fields c) (numbers c))
 line-counted c letter =
     let l = c .before .before .before .loop in
     let some-field = c .before .before .before .before .before .pre .0 in
-    let here = length-row-at letter (fields c) some-field (numbers c) (l .counted) (l .counted + fields c) refl (omega arith) in
+    let here = length-row-at (lineText letter) (fields c) some-field (numbers c) (l .counted) (omega arith) in
     omega (arith, here, l .inv .1 letter, c .line-length .ensures letter)
 
 loop-holds : tie.Need-loop-holds Inv-loop μ-loop
@@ -61,6 +65,7 @@ line-length-requires : tie.Need-line-length-requires Inv-loop μ-loop
 line-length-requires c κs = search needs
 
 add-bytes : tie.Need-add-bytes Inv-loop μ-loop
+unfolding rowLines
 add-bytes c =
     let some-field = c .before .before .before .before .before .pre .0 in
     omega (arith, line-counted c 0, row-lines-length 0 (fields c) some-field (numbers c))
@@ -72,10 +77,12 @@ loop-again : tie.Need-loop-again Inv-loop μ-loop
 loop-again c = (omega arith, λ letter. omega (arith, line-counted c letter))
 
 returns : tie.Need-returns Inv-loop μ-loop
+unfolding rowLines
 returns c letter =
     let start = c .before .before .before in
     let l = c .before .loop in
-    let none = no-row-from letter (start .args .fields) (start .pre .0) (start .args .numbers .now) (l .counted) (omega arith) in
+    let a = start .args in
+    let none = no-line-from (lineText letter) (a .fields) (start .pre .0) (a .numbers .now) (l .counted) (omega arith) in
     omega (arith, rw none at (l .inv .1 letter))
 
 pub rows-length-spec : {M : Type 1} → statement M

@@ -58,18 +58,21 @@ all-jobs c = sym (length-map (c .args .table .jobs) _) ∙ c .good .0 .1 .1 .1 .
 all-places : (c : tie.After-decide) → length (c .decide .result .places) ≡ mostJobs
 all-places c = search needs
 
--- what stood at the start
+-- what stood when the columns were known, and at the start
+abbrev columned : tie.After-decide → tie.After-columns-of
+columned c = c .before .before .before .before .before
+
 abbrev begun : tie.After-decide → tie.Start
-begun c = c .before .before .before .before .before
+begun c = columned c .before .before
 
 -- what was decided, of the table with the budget beside it
 decided-as : (c : tie.After-decide)
     → DecidedAs (withBudget (recordsOf (begun c .args .table)) (begun c .args .budget)) (c .decide .result)
 decided-as c =
     let start = begun c in
-    let columns = c .before .before .before .columns-of in
+    let columns = columned c .columns-of in
     decided-beside (start .args .table) (start .args .budget) (c .decide .result)
-    (c .decide .ensures (start .args .table .jobs)
+    (c .decide .ensures .0 (start .args .table .jobs)
     (by-its-parts (start .args .table) (start .args .budget) (columns .result) (start .pre) (all-jobs start) (columns .ensures)))
 
 planned-length : (c : tie.After-decide)
@@ -83,7 +86,7 @@ abbrev ordered : tie.After-fate-rows → tie.After-order-rows
 ordered c = c .before .before .before .before .before
 
 abbrev decided : tie.After-fate-rows → tie.After-decide
-decided c = ordered c .before .before .before .before .before .before .before .before
+decided c = ordered c .before .before .before .before .before .before .before .before .before .before
 
 abbrev started : tie.After-fate-rows → tie.Start
 started c = begun (decided c)
@@ -109,7 +112,7 @@ plan-told c =
     let order-rows = ordered c .order-rows in
     let d = decided c .decide .result in
     let told = decided-as (decided c) in
-    let columns = decided c .before .before .before .columns-of in
+    let columns = columned (decided c) .columns-of in
     let table = started c .args .table in
     let budget = started c .args .budget in
     let t = withBudget (recordsOf table) budget in
@@ -124,30 +127,38 @@ plan-told c =
 columns-of-requires : tie.Need-columns-of-requires
 columns-of-requires c κs = search needs
 
+slice-aggregate-decide : tie.Need-slice-aggregate-decide
+slice-aggregate-decide c = search needs
+
+slice-aggregate-decide-2 : tie.Need-slice-aggregate-decide-2
+slice-aggregate-decide-2 c = search needs
+
 decide-requires : tie.Need-decide-requires
 decide-requires c κs =
-    let start = c .before .before .before .before in
-    let columns = c .before .before .columns-of in (
+    let columns-known = c .before .before .before .before in
+    let start = columns-known .before .before in
+    let columns = columns-known .columns-of in (
       start .args .table .jobs,
       by-its-parts (start .args .table) (start .args .budget) (columns .result) (start .pre) (all-jobs start) (columns .ensures),
     )
 
 array-share-prefix-places : tie.Need-array-share-prefix-places
 array-share-prefix-places c =
-    let decided = c .before .before in omega (arith, all-places decided, decided-as decided .placed .few)
+    let decided = c .before .before .before .before in omega (arith, all-places decided, decided-as decided .placed .few)
 
 slice-aggregate-order-rows : tie.Need-slice-aggregate-order-rows
-slice-aggregate-order-rows c = sym (planned-length (c .before .before .before))
+slice-aggregate-order-rows c = sym (planned-length (c .before .before .before .before .before))
 
 order-rows-requires : tie.Need-order-rows-requires
 order-rows-requires c κs =
-    let decided = c .before .before .before .before .before .before .before in
+    let decided = c .before .before .before .before .before .before .before .before .before in
+    let columns = columned decided .columns-of in
     let start = begun decided in
     let table = start .args .table in
     let valid = start .pre .valid in (
-      finishable (withBudget (recordsOf table) (start .args .budget)) (decided .decide .result) (decided .before .before .before .columns-of .result) (planned-length decided) valid
-          (decided-as decided) (columns-in-range (recordsOf table .jobs) (decided .before .before .before .columns-of .result)
-          (valid .job-ranges) (decided .before .before .before .columns-of .ensures) .cycles) (table .clock) (clock-small table (start .args .budget) valid),
+      finishable (withBudget (recordsOf table) (start .args .budget)) (decided .decide .result) (columns .result) (planned-length decided) valid
+          (decided-as decided) (columns-in-range (recordsOf table .jobs) (columns .result)
+          (valid .job-ranges) (columns .ensures) .cycles) (table .clock) (clock-small table (start .args .budget) valid),
       refl,
     )
 
@@ -187,6 +198,8 @@ list-plan-spec =
     tie.close
     (tie.spec
     columns-of-requires
+    slice-aggregate-decide
+    slice-aggregate-decide-2
     decide-requires
     array-share-prefix-places
     slice-aggregate-order-rows

@@ -28,14 +28,16 @@ slice-aggregate-planned c = sym (planned-length (c .before .before .before))
 choose-speed-requires : tie.Need-choose-speed-requires
 choose-speed-requires c κs =
     let start = c .before .before .before in
-    let pre = start .pre in
-    record {
-      in-range = pre .speeds-small;
-      job-places =
-          record { few = omega (arith, planned-length start, pre .placed .few); below = pre .placed .below };
-      runs-small = pre .runs-small;
-      terms-small = pre .terms-small;
-    }
+    let pre = start .pre in (
+      record {
+        in-range = pre .speeds-small;
+        job-places =
+            record { few = omega (arith, planned-length start, pre .placed .few); below = pre .placed .below };
+        runs-small = pre .runs-small;
+        terms-small = pre .terms-small;
+      },
+      pre .totalled .total-true,
+    )
 
 mark-planned-requires : tie.Need-mark-planned-requires
 mark-planned-requires c κs = search needs
@@ -46,7 +48,7 @@ returns c =
     let start = chosen .before .before .before .before in
     let args = start .args in
     steps-8-and-9 (args .speeds) (args .speed-count) (args .cycles .now) (args .termination .now) (args .course)
-    (args .terms) (chosen .choose-speed .result) (c .mark-planned .result) (start .pre .placed)
+    (args .terms) (chosen .choose-speed .result) (c .mark-planned .result) (start .pre .placed) (start .pre .totalled)
     (chosen .choose-speed .ensures) (c .mark-planned .ensures)
 
 pub conclude-spec : {M : Type 1} → statement M

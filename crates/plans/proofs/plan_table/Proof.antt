@@ -20,18 +20,21 @@ all-places c = search needs
 all-fates : (c : tie.After-decide) → length (c .decide .result .fates) ≡ mostJobs
 all-fates c = search needs
 
--- what stood at the start
+-- what stood when the columns were known, and at the start
+abbrev columned : tie.After-decide → tie.After-columns-of
+columned c = c .before .before .before .before .before
+
 abbrev started : tie.After-decide → tie.Start
-started c = c .before .before .before .before .before .before
+started c = columned c .before .before .before
 
 -- what was decided, of the table with the budget beside it
 decided-as : (c : tie.After-decide)
     → DecidedAs (withBudget (recordsOf (started c .args .table)) (started c .args .budget)) (c .decide .result)
 decided-as c =
     let start = started c in
-    let columns = c .before .before .before .columns-of in
+    let columns = columned c .columns-of in
     decided-beside (start .args .table) (start .args .budget) (c .decide .result)
-    (c .decide .ensures (start .args .table .jobs)
+    (c .decide .ensures .0 (start .args .table .jobs)
     (by-its-parts (start .args .table) (start .args .budget) (columns .result) (start .pre .0) (all-jobs start) (columns .ensures)))
 
 planned-length : (c : tie.After-decide)
@@ -50,38 +53,46 @@ fates-length c =
 columns-of-requires : tie.Need-columns-of-requires
 columns-of-requires c κs = search needs
 
+slice-aggregate-decide : tie.Need-slice-aggregate-decide
+slice-aggregate-decide c = search needs
+
+slice-aggregate-decide-2 : tie.Need-slice-aggregate-decide-2
+slice-aggregate-decide-2 c = search needs
+
 decide-requires : tie.Need-decide-requires
 decide-requires c κs =
-    let start = c .before .before .before .before .before in
-    let columns = c .before .before .columns-of in (
+    let columns-known = c .before .before .before .before in
+    let start = columns-known .before .before .before in
+    let columns = columns-known .columns-of in (
       start .args .table .jobs,
       by-its-parts (start .args .table) (start .args .budget) (columns .result) (start .pre .0) (all-jobs start) (columns .ensures),
     )
 
 array-share-prefix-places : tie.Need-array-share-prefix-places
 array-share-prefix-places c =
-    let decided = c .before .before .before in omega (arith, all-places decided, decided-as decided .placed .few)
+    let decided = c .before .before .before .before .before in omega (arith, all-places decided, decided-as decided .placed .few)
 
 slice-aggregate-put-order : tie.Need-slice-aggregate-put-order
-slice-aggregate-put-order c = sym (planned-length (c .before .before .before .before))
+slice-aggregate-put-order c = sym (planned-length (c .before .before .before .before .before .before))
 
 put-order-requires : tie.Need-put-order-requires
 put-order-requires c κs =
-    let decided = c .before .before .before .before .before .before in
+    let decided = c .before .before .before .before .before .before .before .before in
     let start = started decided in
     (omega (arith, planned-length decided, decided-as decided .placed .few, start .pre .1), decided-as decided .placed .below)
 
 array-share-prefix-by-job : tie.Need-array-share-prefix-by-job
 array-share-prefix-by-job c =
-    let decided = c .before .before .before .before .before .before .before .before .before .before in
+    let decided = c .before .before .before .before .before .before .before .before .before .before .before .before in
     omega (arith, all-fates decided, started decided .pre .0 .few-jobs)
 
 slice-aggregate-put-fates : tie.Need-slice-aggregate-put-fates
-slice-aggregate-put-fates c = sym (fates-length (c .before .before .before .before .before .before .before .before .before .before .before))
+slice-aggregate-put-fates c =
+    sym (fates-length (c .before .before .before .before .before .before .before .before .before .before .before .before .before))
 
 put-fates-requires : tie.Need-put-fates-requires
 put-fates-requires c κs =
-    let decided = c .before .before .before .before .before .before .before .before .before .before .before in
+    let decided = c .before .before .before .before .before .before .before .before .before .before .before .before .before in
     let start = started decided in
     omega (arith, fates-length decided, start .pre .0 .few-jobs, start .pre .2)
 
@@ -93,20 +104,25 @@ same-length-2 c = search needs
 
 returns : tie.Need-returns
 returns c =
-    let decided = c .before .before .before .before .before .before .before .before .before .before .before .before .before .before in
+    let filled = c .before .before in
+    let put = filled .before .before .before .before .before in
+    let decided = put .before .before .before .before .before .before .before .before .before in
     let start = started decided in
     let table = start .args .table in
-    buffers-left (withBudget (recordsOf table) (start .args .budget)) (decided .decide .result) (decided .before .before .before .columns-of .result .number)
-    (decided-as decided) (decided .before .before .before .columns-of .ensures .number) (all-places decided) (all-fates decided)
-    (start .pre .0 .valid .few-jobs) (start .args .order .now) (start .args .fates .now)
-    (c .before .before .before .before .before .before .before .put-order .last .0) (c .before .before .put-fates .last .0) (table .«job_count»)
-    (jobs-counted table (start .args .budget) (all-jobs start) (start .pre .0)) (c .before .before .before .before .before .before .before .put-order .ensures) (c .before .before .put-fates .ensures)
+    let columns = columned decided .columns-of in
+    buffers-left (withBudget (recordsOf table) (start .args .budget)) (decided .decide .result) (columns .result .number)
+    (decided-as decided) (columns .ensures .number) (all-places decided) (all-fates decided)
+    (start .pre .0 .valid .few-jobs) (start .args .order .now) (start .args .fates .now) (put .put-order .last .0)
+    (filled .put-fates .last .0) (table .«job_count»)
+    (jobs-counted table (start .args .budget) (all-jobs start) (start .pre .0)) (put .put-order .ensures) (filled .put-fates .ensures)
 
 pub plan-table-spec : {M : Type 1} → statement M
 plan-table-spec =
     tie.close
     (tie.spec
     columns-of-requires
+    slice-aggregate-decide
+    slice-aggregate-decide-2
     decide-requires
     array-share-prefix-places
     slice-aggregate-put-order

@@ -1,29 +1,32 @@
 -- `plans::take_turns` meets its contract: after each turn places, keys and fates stand for the rules' course of the turns
--- taken. The measure is how many turns are left. Assumes nothing.
+-- taken, the record's total is true, and the turn is noted with the room by that total. The measure is how many turns are left.
+-- Assumes nothing.
 use mathlib.Core.List.{List}
 use mathlib.Core.Path.{_≡_, refl, sym, _∙_}
-use Prim.Native.Nat.{ℕ, _-_, _≤_, _<_}
+use Prim.Native.Nat.{ℕ, _+_, _-_, _*_, _≤_, _<_}
 use native.Mathlib.Omega.{arith}
-use lib.ListN.{getD, getD-replicate, length, length-set, replicate}
+use lib.ListN.{getD, getD-replicate, length, length-set, replicate, set}
 use lib.Seq.{getD-take, length-take-le}
 use Rattle.laws.specs.Pairs.{no-pair}
-use Rattle.plans.proofs.Taking.{OnCourse, at-end, at-start, one-more-taken}
+use Rattle.plans.proofs.Noting.{nothing-noted, one-more-noted}
+use Rattle.plans.proofs.Taking.{OnCourse, at-end, at-start, jobs-run, one-more-taken, room-by-record}
 use Rattle.plans.specs.Courses.{courseBy}
-use Rattle.plans.specs.Promises.{CourseBy, TurnsOf}
+use Rattle.plans.specs.Promises.{CourseBy, Totalled, TurnsNoted, TurnsOf}
 use Rattle.plans.specs.declared.CourseTaken.{CourseTaken}
 use Rattle.rules.specs.Lists.{Rising}
 use Rattle.rules.specs.TableText.{Records, mostJobs}
-use Rattle.trials.specs.Promises.{PlanStanding, TurnColumns, columnsRead, planParts, notPlanned}
+use Rattle.trials.specs.Promises.{PlanStanding, TurnColumns, columnsRead, planParts, plannedPlaces, notPlanned}
 use borrow.Author.Needs.{needs}
 use Rattle.plans.proofs.take_turns.Statement.{statement}
 use Rattle.plans.proofs.take_turns.Tie as tie
 
 -- before the first turn nothing is planned
-nothing-standing : PlanStanding (planParts (record { count = 0 }) (replicate mostJobs 0) (replicate mostJobs notPlanned))
+nothing-standing : PlanStanding (planParts (record { count = 0; cycles = 0 }) (replicate mostJobs 0) (replicate mostJobs notPlanned))
 nothing-standing = record {
   places-length = refl;
   keys-length = refl;
   few = omega arith;
+  cycles-small = omega arith;
   below = λ i h. absurd (omega arith);
   once = no-pair;
   sorted = no-pair;
@@ -37,15 +40,17 @@ all-taken : (t : Records) (order : List ℕ) (n i : ℕ) (keys : List ℕ) (r : 
 all-taken t order n i keys r e rising on = rw (sym e) (at-end t (courseBy t order i) r keys rising on)
 
 abbrev Inv-loop : tie.InvT-loop
-Inv-loop over waits critical cycles termination terms turns places₀ keys₀ kept₀ totals₀ fates₀ i₀ places keys kept totals fates i =
+Inv-loop over waits critical cycles termination terms order₀ rooms₀ turns places₀ keys₀ kept₀ totals₀ fates₀ i₀ order rooms places keys kept totals fates i =
     (i ≤ turns .count)
     × PlanStanding (planParts totals places keys)
     × (length fates ≡ mostJobs)
     × ((t : Records) → TurnsOf t turns over (columnsRead waits critical cycles termination) fates₀ terms
     → OnCourse t (courseBy t (turns .order) i) (planParts totals places keys) fates)
+    × Totalled totals places cycles terms
+    × TurnsNoted i turns over (columnsRead waits critical cycles termination) fates₀ terms order₀ rooms₀ order rooms
 
 abbrev μ-loop : tie.MeasureT-loop
-μ-loop over waits critical cycles termination terms turns places₀ keys₀ kept₀ totals₀ fates₀ i₀ places keys kept totals fates i =
+μ-loop over waits critical cycles termination terms order₀ rooms₀ turns places₀ keys₀ kept₀ totals₀ fates₀ i₀ order rooms places keys kept totals fates i =
     turns .count - i
 
 all-places : (c : tie.Start Inv-loop μ-loop) → length (c .args .so-far) ≡ mostJobs
@@ -61,10 +66,14 @@ abbrev columns : tie.Start Inv-loop μ-loop → TurnColumns
 columns c =
     columnsRead (c .args .waits .now) (c .args .critical .now) (c .args .cycles .now) (c .args .termination .now)
 
+-- the function's start, seen from inside the loop
+abbrev started : tie.In-loop Inv-loop μ-loop → tie.Start Inv-loop μ-loop
+started c = c .before .before .before .before
+
 place-below : (c : tie.In-loop Inv-loop μ-loop)
-    → getD (c .before .before .args .t1 .order) (c .before .loop .i) 0 < mostJobs
+    → getD (started c .args .t1 .order) (c .before .loop .i) 0 < mostJobs
 place-below c =
-    let start = c .before .before in
+    let start = started c in
     let turns = start .args .t1 in
     let i = c .before .loop .i in
     omega (
@@ -76,43 +85,57 @@ place-below c =
 
 loop-holds : tie.Need-loop-holds Inv-loop μ-loop
 loop-holds c =
-    let args = c .args in (
+    let start = c .before .before in
+    let args = start .args in (
       omega arith,
       nothing-standing,
-      all-places c,
-      λ t of. at-start t (args .t1) (args .over .now) (columns c) (args .so-far) (args .terms) of _ _,
+      all-places start,
+      λ t of. at-start t (args .t1) (args .over .now) (columns start) (args .so-far) (args .terms) of _ _,
+      record { total-true = refl; within = omega arith },
+      nothing-noted (args .t1) (args .over .now) (columns start) (args .so-far) (args .terms) (args .order .now) (args .rooms .now),
     )
 
 mul-place : tie.Need-mul-place Inv-loop μ-loop
-mul-place c = omega (arith, c .before .before .pre .few-turns)
+mul-place c = omega (arith, started c .pre .few-turns)
 
 element-copy-out-place : tie.Need-element-copy-out-place Inv-loop μ-loop
-element-copy-out-place c = omega (arith, c .before .before .pre .few-turns)
+element-copy-out-place c = omega (arith, started c .pre .few-turns)
 
-mul-t19 : tie.Need-mul-t19 Inv-loop μ-loop
-mul-t19 c = omega (arith, place-below (c .before))
+mul-note-turn : tie.Need-mul-note-turn Inv-loop μ-loop
+mul-note-turn c = omega (arith, place-below (c .before))
 
-element-copy-out-t23 : tie.Need-element-copy-out-t23 Inv-loop μ-loop
-element-copy-out-t23 c = place-below (c .before)
+element-copy-out-note-turn : tie.Need-element-copy-out-note-turn Inv-loop μ-loop
+element-copy-out-note-turn c = place-below (c .before)
 
 turn-requires : tie.Need-turn-requires Inv-loop μ-loop
 turn-requires c κs =
     let inside = c .before .before .before .before .before in
-    let pre = inside .before .before .pre in
+    let pre = started inside .pre in
     record {
       standing = inside .before .loop .inv .1;
+      total-true = inside .before .loop .inv .4 .total-true;
       place-below = place-below inside;
       columns-small = pre .columns-small;
       terms-small = pre .terms-small;
     }
 
+-- inside the loop, seen from where the turn is taken
+abbrev in-turn : tie.After-totals Inv-loop μ-loop → tie.In-loop Inv-loop μ-loop
+in-turn c = c .before .before .before .before .before .before .before
+
 mul-fates : tie.Need-mul-fates Inv-loop μ-loop
-mul-fates c = omega (arith, place-below (c .before .before .before .before .before .before .before))
+mul-fates c = omega (arith, place-below (in-turn c))
 
 array-write-fates : tie.Need-array-write-fates Inv-loop μ-loop
-array-write-fates c =
-    let inside = c .before .before .before .before .before .before .before in
-    omega (arith, inside .before .loop .inv .2, place-below inside)
+array-write-fates c = omega (arith, in-turn c .before .loop .inv .2, place-below (in-turn c))
+
+-- the record after the turn is within budget
+within-after : (c : tie.After-totals Inv-loop μ-loop)
+    → let terms = started (in-turn c) .args .terms in c .before .turn .result .totals .cycles * terms .cost ≤ terms .budget
+within-after c = c .before .turn .ensures .within (in-turn c .before .loop .inv .4 .within)
+
+note-turn-requires : tie.Need-note-turn-requires Inv-loop μ-loop
+note-turn-requires c κs = within-after (c .before .before)
 
 add-i : tie.Need-add-i Inv-loop μ-loop
 add-i c = search needs
@@ -122,33 +145,55 @@ loop-less c = search needs
 
 loop-again : tie.Need-loop-again Inv-loop μ-loop
 loop-again c =
-    let inside = c .before .before .before .before .before .before .before in
-    let start = inside .before .before in
+    let noted = c .before .before .before .before in
+    let taken = noted .before .before .before in
+    let inside = in-turn taken in
+    let start = started inside in
     let loop = inside .before .loop in
     let args = start .args in
     let place = getD (args .t1 .order) (loop .i) 0 in
-    let turned = c .before .turn in (
+    let turned = taken .before .turn in
+    let plan = planParts (turned .result .totals) (turned .last .0) (turned .last .1 .0) in
+    let next : (t : Records) → TurnsOf t (args .t1) (args .over .now) (columns start) (args .so-far) (args .terms)
+    → OnCourse t (courseBy t (args .t1 .order) (loop .i + 1)) plan (set (loop .fates) place (turned .result .fate)) = λ t of.
+    one-more-taken t (args .t1) (args .over .now) (columns start) (args .so-far) (args .terms) of (loop .i) (turns-there start)
+    (inside .loop-test .taken) (planParts (loop .totals) (loop .places) (loop .keys)) (loop .fates) (loop .inv .3 t of) plan
+    (turned .result .fate) (omega (arith, loop .inv .2, place-below inside)) (turned .ensures) in (
       omega (arith, inside .loop-test .taken),
       turned .ensures .standing,
       length-set (loop .fates) place (turned .result .fate) ∙ loop .inv .2,
-      λ t of.
-          one-more-taken t (args .t1) (args .over .now) (columns start) (args .so-far) (args .terms) of (loop .i)
-          (turns-there start) (inside .loop-test .taken) (planParts (loop .totals) (loop .places) (loop .keys)) (loop .fates)
-          (loop .inv .3 t of) (planParts (turned .result .totals) (turned .last .0) (turned .last .1 .0))
-          (turned .result .fate) (omega (arith, loop .inv .2, place-below inside)) (turned .ensures),
+      next,
+      record { total-true = turned .ensures .total-true; within = within-after taken },
+      one-more-noted (args .t1) (args .over .now) (columns start) (args .so-far) (args .terms) (loop .i) (args .order .now)
+          (args .rooms .now) (loop .order) (loop .rooms) (loop .inv .5) _
+          (λ t of.
+          room-by-record t (courseBy t (args .t1 .order) (loop .i + 1)) (plannedPlaces plan) (args .cycles .now)
+          (plan .totals .cycles) (args .terms) (of .terms-of) (of .columns-of .runs-of .cycles-of)
+          (jobs-run t (courseBy t (args .t1 .order) (loop .i + 1)) plan (next t of .plan)) (turned .ensures .total-true))
+          _ _ (noted .note-turn .ensures),
     )
+
+same-length : tie.Need-same-length Inv-loop μ-loop
+same-length c = c .before .loop .inv .5 .order-whole
+
+same-length-2 : tie.Need-same-length-2 Inv-loop μ-loop
+same-length-2 c = c .before .loop .inv .5 .rooms-whole
 
 returns : tie.Need-returns Inv-loop μ-loop
 returns c =
-    let start = c .before .before in
     let loop = c .before .loop in
-    let args = start .args in
-    record {
-      placed = record { few = loop .inv .1 .few; below = loop .inv .1 .below };
-      course = λ t of.
-          all-taken t (args .t1 .order) (args .t1 .count) (loop .i) (loop .keys) _ (omega arith)
-          (of .valid .jobs-rise) (loop .inv .3 t of);
-    }
+    let args = c .before .before .before .before .args in
+    let all : loop .i ≡ args .t1 .count = omega (arith, c .loop-test .left, loop .inv .0) in (
+      record {
+        placed = record { few = loop .inv .1 .few; below = loop .inv .1 .below };
+        totalled = loop .inv .4;
+        turns-counted = refl;
+        course = λ t of.
+            all-taken t (args .t1 .order) (args .t1 .count) (loop .i) (loop .keys) _ all (of .valid .jobs-rise)
+            (loop .inv .3 t of);
+      },
+      rw all at (loop .inv .5),
+    )
 
 pub take-turns-spec : {M : Type 1} → statement M
 take-turns-spec =
@@ -159,12 +204,15 @@ take-turns-spec =
     loop-holds
     mul-place
     element-copy-out-place
-    mul-t19
-    element-copy-out-t23
+    mul-note-turn
+    element-copy-out-note-turn
     turn-requires
     mul-fates
     array-write-fates
+    note-turn-requires
     add-i
     loop-less
     loop-again
+    same-length
+    same-length-2
     returns)

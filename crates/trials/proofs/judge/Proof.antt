@@ -4,6 +4,7 @@ use Prim.Native.Nat.{ℕ, _*_, _≤_}
 use native.Mathlib.Nat.{mul-le-mul}
 use native.Mathlib.Omega.{arith}
 use borrow.Author.Needs.{needs}
+use Rattle.entries.proofs.Sums.{cycles-at-most}
 use Rattle.rules.specs.TableText.{mostCost, mostCycles, mostJobs}
 use Rattle.trials.proofs.Judged.{judged-by-tests}
 use Rattle.trials.proofs.judge.Statement.{statement}
@@ -15,14 +16,16 @@ small h l = mul-le-mul h l
 in-time-requires : tie.Need-in-time-requires
 in-time-requires c κs = search needs
 
-total-cycles-requires : tie.Need-total-cycles-requires
-total-cycles-requires c κs = search needs
-
 mul-energy : tie.Need-mul-energy
 mul-energy c =
-    let sum = c .before .total-cycles in
-    let start = c .before .before .before .before in
-    let few : sum .result ≤ mostCycles * mostJobs = omega (arith, sum .ensures .at-most, start .pre .job-places .few) in
+    let start = c .before .before .before in
+    let few : start .args .all-cycles ≤ mostCycles * mostJobs =
+    omega (
+      arith,
+      start .pre .all-cycles-of,
+      cycles-at-most (start .args .cycles .now) (start .pre .runs-small .cycles-small) (start .args .places .now),
+      start .pre .job-places .few,
+    ) in
     omega (arith, small few (start .pre .terms-small .cost))
 
 fate-by-requires : tie.Need-fate-by-requires
@@ -30,12 +33,12 @@ fate-by-requires c κs = search needs
 
 returns : tie.Need-returns
 returns c =
-    let sum = c .before .before .total-cycles in
-    let timed = c .before .before .before .in-time in
-    let args = c .before .before .before .before .before .args in
-    judged-by-tests (args .places .now) (args .cycles .now) (args .termination .now) (args .terms) (timed .result)
-    (timed .ensures) (sum .result) (sum .ensures) (c .fate-by .result) (c .fate-by .ensures)
+    let timed = c .before .before .in-time in
+    let start = c .before .before .before .before in
+    let args = start .args in
+    judged-by-tests (args .places .now) (args .all-cycles) (args .cycles .now) (args .termination .now) (args .terms)
+    (start .pre .all-cycles-of) (timed .result) (timed .ensures) (c .fate-by .result) (c .fate-by .ensures)
 
 pub judge-spec : {M : Type 1} → statement M
 judge-spec =
-    tie.close (tie.spec in-time-requires total-cycles-requires mul-energy fate-by-requires returns)
+    tie.close (tie.spec in-time-requires mul-energy fate-by-requires returns)

@@ -33,14 +33,14 @@ element-copy-out-if1 c = search needs
 returns : tie.Need-returns
 returns c =
     let start = c .before .before in
-    job-passed-over (before start) (start .args .job) (columns start) (start .args .terms) (start .pre .standing)
-    (start .pre .place-below) (omega arith)
+    job-passed-over (before start) (start .args .job) (columns start) (start .args .terms) (start .pre)
+    (omega arith)
 
 returns-2 : tie.Need-returns-2
 returns-2 c =
     let start = c .before .before .before .before in
-    ratio-is-zero (before start) (start .args .job) (columns start) (start .args .terms) (start .pre .standing)
-    (start .pre .place-below) (omega arith) (c .if2 .taken)
+    ratio-is-zero (before start) (start .args .job) (columns start) (start .args .terms) (start .pre)
+    (omega arith) (c .if2 .taken)
 
 copy-front-requires : tie.Need-copy-front-requires
 copy-front-requires c κs = search needs
@@ -54,6 +54,7 @@ trial-requires c κs =
       place-below = start .pre .place-below;
       not-planned = omega arith;
       critical-small = start .pre .columns-small .critical-small;
+      cycles-small = start .pre .columns-small .runs-small .cycles-small;
     }
 
 slice-aggregate-judge : tie.Need-slice-aggregate-judge
@@ -70,12 +71,18 @@ judge-requires c κs =
             few = omega (arith, made .trial .ensures .standing .few, tried-long made);
             below = made .trial .ensures .standing .below;
           };
+      all-cycles-of = made .trial .ensures .total-true (start .pre .total-true);
       runs-small = start .pre .columns-small .runs-small;
       terms-small = start .pre .terms-small;
     }
 
 copy-front-requires-2 : tie.Need-copy-front-requires-2
-copy-front-requires-2 c κs = search needs
+copy-front-requires-2 c κs =
+    let made = c .before .before .before .before .before .before .before .before in
+    let some = made .before .before .before .before .before .before .before .before in
+    let start = some .before .before .before .before in
+    let few = start .pre .standing .few in
+    (omega (arith, few, made .trial .ensures .standing .places-length), search needs)
 
 returns-3 : tie.Need-returns-3
 returns-3 c =
@@ -85,8 +92,8 @@ returns-3 c =
     let kept = made .before .before .before .before in
     let some = kept .before .before .before .before in
     let start = some .before .before .before .before in
-    trial-is-dropped (before start) (start .args .job) (columns start) (start .args .terms) (start .pre .standing)
-    (start .pre .place-below) (omega arith) (some .if2 .left) (tried made) (made .trial .ensures) (judged .judge .result)
+    trial-is-dropped (before start) (start .args .job) (columns start) (start .args .terms) (start .pre)
+    (omega arith) (some .if2 .left) (tried made) (made .trial .ensures) (judged .judge .result)
     (judged .judge .ensures) (start .args .kept .now) (kept .copy-front .last .0) _ (kept .copy-front .ensures)
     (c .copy-front2 .ensures) (dropped .if3 .taken)
 
@@ -97,8 +104,8 @@ returns-4 c =
     let some = made .before .before .before .before .before .before .before .before in
     let start = some .before .before .before .before in
     rw (c .if3 .left)
-    (trial-is-accepted (before start) (start .args .job) (columns start) (start .args .terms) (start .pre .standing)
-    (start .pre .place-below) (omega arith) (some .if2 .left) (tried made) (made .trial .ensures) (judged .judge .result)
+    (trial-is-accepted (before start) (start .args .job) (columns start) (start .args .terms) (start .pre)
+    (omega arith) (some .if2 .left) (tried made) (made .trial .ensures) (judged .judge .result)
     (judged .judge .ensures) (c .if3 .left))
 
 pub turn-spec : {M : Type 1} → statement M

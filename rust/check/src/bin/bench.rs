@@ -1,11 +1,11 @@
 //! What a call costs, the library beside the reference, for 8, 16, 32 and 64 jobs of four families: to read a text; to
-//! plan a table that has been read, with a budget beside it; and both, as for the first plan of a text. It calls the
-//! library linked: with the feature `native`, which off x86-64 needs `tools/native`.
+//! plan a table that has been read, with a budget beside it; to tell its rooms; and to read and plan, as for the first
+//! plan of a text. It calls the library linked: with the feature `native`, which off x86-64 needs `tools/native`.
 //!
 //! Usage: bench                              nanoseconds
 //!        bench instructions                 instructions, counted by valgrind
 //!        bench WHO CALL TIMES FAMILY JOBS   so many calls, to be counted or watched from outside: WHO is library or
-//!                                           reference, CALL is read, plan or "read + plan", FAMILY is 0 to 3
+//!                                           reference, CALL is read, plan, rooms or "read + plan", FAMILY is 0 to 3
 
 #![forbid(unsafe_code)]
 
@@ -21,7 +21,7 @@ use cuddlelamb_check::reference::{
 };
 
 const SIZES: [usize; 4] = [8, 16, 32, 64];
-const CALLS: [&str; 3] = ["read", "plan", "read + plan"];
+const CALLS: [&str; 4] = ["read", "plan", "rooms", "read + plan"];
 const FAMILIES: [&str; 4] =
     ["nothing waits", "ten times overloaded", "long chains, all accepted", "long chains, ten times overloaded"];
 
@@ -70,9 +70,11 @@ fn call_of(who: &str, call: &str) -> Call {
     match (who, call) {
         ("library", "read") => |input| _ = black_box(calls::read(black_box(&input.text))),
         ("library", "plan") => |input| plan_by_library(&input.library),
+        ("library", "rooms") => |input| rooms_by_library(&input.library),
         ("library", "read + plan") => |input| plan_by_library(&calls::read(black_box(&input.text)).value),
         ("reference", "read") => |input| _ = black_box(reference::read(black_box(&input.text))),
         ("reference", "plan") => |input| plan_by_reference(&input.reference),
+        ("reference", "rooms") => |input| rooms_by_reference(&input.reference),
         ("reference", "read + plan") => {
             |input| plan_by_reference(&reference::read(black_box(&input.text)).expect("a good text"))
         }
@@ -90,10 +92,20 @@ fn plan_by_reference(table: &Table) {
     with_buffers(|order, fates| _ = black_box(reference::plan(table, budget, order, fates)));
 }
 
+fn rooms_by_library(table: &cuddlelamb::Table) {
+    let (table, budget) = black_box((table, table.budget));
+    with_buffers(|turns, rooms| _ = black_box(calls::rooms(table, budget, turns, rooms)));
+}
+
+fn rooms_by_reference(table: &Table) {
+    let (table, budget) = black_box((table, table.budget));
+    with_buffers(|turns, rooms| _ = black_box(reference::rooms(table, budget, turns, rooms)));
+}
+
 fn with_buffers(call: impl FnOnce(&mut [u64], &mut [u64])) {
-    let (mut order, mut fates) = ([0; JOBS], [0; JOBS]);
-    call(&mut order, &mut fates);
-    black_box((&order, &fates));
+    let (mut one, mut other) = ([0; JOBS], [0; JOBS]);
+    call(&mut one, &mut other);
+    black_box((&one, &other));
 }
 
 // ---- The families ----------------------------------------------------------------------------------------------------

@@ -1,4 +1,5 @@
-//! Holds the library against the reference on any number of generated cases: `compare SEED COUNT [FIRST]`
+//! Holds the library against the reference on any number of generated cases: `compare SEED COUNT [FIRST]`; or the
+//! reference against the naive one: `compare reference SEED COUNT [FIRST]`
 //! Exit status 1 at the first difference, which is printed as a table text with its seed and index.
 
 #![forbid(unsafe_code)]
@@ -8,24 +9,26 @@ use std::sync::atomic::{AtomicU64, Ordering};
 use std::sync::Mutex;
 use std::time::Instant;
 
-use cuddlelamb_check::compare::{by_reference, cases, Tally};
+use cuddlelamb_check::compare::{by_reference, cases, cases_of_reference, Tally};
 use cuddlelamb_check::Library;
 
 /// How many cases one thread takes at a time.
 const PART: u64 = 1024;
 
 fn main() -> ExitCode {
-    let numbers: Option<Vec<u64>> = std::env::args().skip(1).map(|argument| argument.parse().ok()).collect();
+    let mut words = std::env::args().skip(1).peekable();
+    let of_reference = words.next_if(|word| word == "reference").is_some();
+    let numbers: Option<Vec<u64>> = words.map(|word| word.parse().ok()).collect();
     let (seed, count, first) = match numbers.as_deref() {
         Some([seed, count]) => (*seed, *count, 0),
         Some([seed, count, first]) => (*seed, *count, *first),
         _ => {
-            eprintln!("usage: compare SEED COUNT [FIRST]");
+            eprintln!("usage: compare [reference] SEED COUNT [FIRST]");
             return ExitCode::from(2);
         }
     };
     println!("seed {seed}, {count} cases from index {first}");
-    match compare(seed, first, count) {
+    match compare(of_reference, seed, first, count) {
         Ok(tally) => {
             println!("{} cases, {} calls: no difference", tally.cases, tally.calls);
             println!("answers by number, 0 for none refused: {:?}", tally.numbers);
@@ -39,18 +42,22 @@ fn main() -> ExitCode {
 }
 
 /// As many threads as the machine has processors, each with a library of its own, take part after part.
-fn compare(seed: u64, first: u64, count: u64) -> Result<Tally, String> {
+fn compare(of_reference: bool, seed: u64, first: u64, count: u64) -> Result<Tally, String> {
     let start = Instant::now();
     let next = AtomicU64::new(0);
     let result = Mutex::new(Ok(Tally::default()));
     let work = || {
-        let mut library = Library::open();
+        let mut library = (!of_reference).then(Library::open);
         loop {
             let from = next.fetch_add(PART, Ordering::Relaxed);
             if from >= count || result.lock().unwrap().is_err() {
                 return;
             }
-            let told = cases(&mut library, by_reference, seed, first + from, first + count.min(from + PART));
+            let (from, to) = (first + from, first + count.min(from + PART));
+            let told = match &mut library {
+                Some(library) => cases(library, by_reference, seed, from, to),
+                None => cases_of_reference(seed, from, to),
+            };
             let mut result = result.lock().unwrap();
             match (&mut *result, told) {
                 (Ok(all), Ok(tally)) => {

@@ -1,0 +1,4 @@
+mod RowsStored
+mod OwnTurns
+pub mod Listed
+pub mod LongestRooms
