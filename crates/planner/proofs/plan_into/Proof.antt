@@ -3,6 +3,7 @@
 use mathlib.Core.List.{List}
 use mathlib.Core.Path.{_≡_, refl, sym, _∙_}
 use Prim.Native.Nat.{ℕ}
+use native.Mathlib.Omega.{arith}
 use lib.ListN.{length}
 use Rattle.checks.proofs.Exactly.{done-exactly, refused-exactly}
 use Rattle.planner.proofs.Decisions.{answered, before-as, plannable, refused-before, refused-table, says}
@@ -106,7 +107,7 @@ plan-table-requires c κs =
     let told = c .before .before in
     let go = asked (told .before .before .before) in
     let args = started (told .before .before .before .before .before) .args in
-    (plannable (args .table) (args .budget) (go .2) (done told), go .0, go .1)
+    (plannable (args .table) (args .budget) (go .2) (done told), omega (arith, go .0, go .1), omega (arith, go .0, go .1))
 
 same-length : tie.Need-same-length
 same-length c = search needs
