@@ -1,5 +1,5 @@
 pub mod Walks
-mod ChainSums
+pub mod ChainSums
 mod Rings
 mod Remaining
 mod Holding

@@ -1,3 +1,4 @@
 pub mod Waits
 pub mod Promises
 pub mod Stage
+pub mod ChainSums

@@ -1,20 +1,20 @@
--- What the functions of steps 1 to 4 ask and promise: a job is known by its place, and read from the columns.
+-- What the functions of steps 1 and 2 and the deadlines ask and promise: a job is known by its place, and read from the columns.
 use mathlib.Core.Bool.{Bool}
-use mathlib.Core.List.{List, _∷_}
+use mathlib.Core.List.{List}
 use mathlib.Core.Option.{Option}
 use mathlib.Core.Path.{_≡_}
-use Prim.Native.Nat.{ℕ, _+_, _*_, _≤_, _<_}
+use Prim.Native.Nat.{ℕ, _+_, _*_, _/_, _≤_, _<_}
 use lib.ListN.{getD, length, take}
-use Rattle.chains.specs.Waits.{HolderAt, PlaceOrNobody, Remaining, Waits, atPlace, placesFrom}
-use Rattle.columns.specs.Columns.{AtMost, Column, RunsOf, TermsOf}
-use Rattle.columns.specs.Ranges.{RunsInRange, TermsInRange}
+use Rattle.chains.specs.Waits.{HolderAt, PlaceOrNobody, Remaining, Waits, atPlace}
+use Rattle.columns.specs.Columns.{AtMost, Column, TermsOf}
 use Rattle.columns.specs.declared.Terms.{Terms}
-use Rattle.rules.specs.Lists.{Rising, find, keep, total}
-use Rattle.rules.specs.Plan.{awaited, cyclesOf, gives, goesRather, farEndFirst, leavesRing, runsOf, topOf, waitsFor, Run}
+use Rattle.rules.specs.Lists.{Rising, find, keep}
+use Rattle.rules.specs.Plan.{awaited, goesRather, leavesRing, topOf, waitsFor}
 use Rattle.rules.specs.Refusals.{isHolder}
 use Rattle.rules.specs.TableText.{Records, mostCycles, mostHolds, mostJobs, mostMhz, mostTime, mostWorth, noHold, noJob}
 use Rattle.rules.specs.declared.Hold.{Hold}
 use Rattle.rules.specs.declared.Job.{Job}
+use Rattle.steps.specs.Deadlines.{deadlineOf}
 
 -- A chain has a job, and at most one for each resource behind it.
 abbrev pub mostMembers : ℕ
@@ -74,35 +74,12 @@ pub record LeavesRing (place : ℕ) (waits numbers worth cycles : List ℕ) (r :
       → Column (λ j. j .worth) js worth → Column (λ j. j .cycles) js cycles
       → r ≡ leavesRing t (awaited next (getD js place noJob)) (getD js place noJob)
 
--- the cycles at the places that a chain's walk meets
-abbrev pub cyclesAlong : List ℕ → List ℕ → ℕ → ℕ
-cyclesAlong waits cycles place = total (λ p. getD cycles p 0) (placesFrom waits mostMembers place)
+-- The latest deadline, in cycles.
+abbrev pub mostDeadline : ℕ
+mostDeadline = mostTime * mostMhz / 1000
 
--- The sum of the chain's cycles.
-pub record ChainCycles (place : ℕ) (waits cycles : List ℕ) (r : ℕ) : Type 0 where
-  pub sum : (js : List Job) (next : Job → Option Job) → Waits js next waits → place < length js
-      → Column (λ j. j .cycles) js cycles
-      → r ≡ cyclesOf (getD js place noJob ∷ awaited next (getD js place noJob))
-  pub along : r ≡ cyclesAlong waits cycles place
-  pub at-most : r ≤ mostCycles * mostMembers
-
--- What a member gives that ends after so many cycles.
-pub record Gives (clock mhz cycles termination worth r : ℕ) : Type 0 where
-  pub gives-so : (t : Records) (m : Run) → t .clock ≡ clock → topOf t .mhz ≡ mhz → m .cyclesByEnd ≡ cycles
-      → m .job .termination ≡ termination → m .job .worth ≡ worth → r ≡ gives t m
-  pub at-most : r ≤ worth
-
--- Columns and terms in their ranges, and `all` the sum of the chain's cycles: no sum or product wraps.
-pub record Runnable (place : ℕ) (waits cycles worth termination : List ℕ) (terms : Terms) (all : ℕ) : Type 0 where
-  pub runs-small : RunsInRange cycles termination
-  pub worth-small : AtMost mostWorth worth
-  pub terms-small : TermsInRange terms
-  pub all-along : all ≡ cyclesAlong waits cycles place
-  pub all-small : all ≤ mostCycles * mostMembers
-
--- What the chain's members give, run alone from the clock at top speed.
-pub record ChainGives (place : ℕ) (waits cycles worth termination : List ℕ) (terms : Terms) (r : ℕ) : Type 0 where
-  pub sum : (t : Records) (js : List Job) (next : Job → Option Job) → Waits js next waits → place < length js
-      → RunsOf js cycles termination → Column (λ j. j .worth) js worth → TermsOf t terms
-      → r ≡ total (gives t) (runsOf (farEndFirst (getD js place noJob ∷ awaited next (getD js place noJob))))
-  pub at-most : r ≤ mostWorth * mostMembers
+-- At each place the deadline of the job there, in cycles; beyond the jobs 0.
+pub record Deadlines (termination : List ℕ) (terms : Terms) (r : List ℕ) : Type 0 where
+  pub deadlines-of : (t : Records) → TermsOf t terms → Column (λ j. j .termination) (t .jobs) termination
+      → Column (deadlineOf (t .clock) (topOf t .mhz)) (t .jobs) r
+  pub at-most : AtMost mostDeadline r

@@ -1,5 +1,6 @@
-// Steps 1 to 4 of "From jobs to a plan" on lent columns: who is late alone, who leaves a ring, and what a chain takes and
-// gives. A job is known by its place in the table, and whom it waits for stands as a place in a column, `MOST_JOBS` for nobody.
+// Steps 1 and 2 of "From jobs to a plan" on lent columns: who is late alone, who waits for whom, and who leaves a ring; and the
+// deadlines by which step 4 compares. A job is known by its place in the table, and whom it waits for stands as a place in a
+// column, `MOST_JOBS` for nobody.
 use columns::Found;
 use columns::Terms;
 use rules::Hold;
@@ -10,11 +11,14 @@ ghost use mathlib.Core.Bool.{not, _||_};
 ghost use mathlib.Core.Path.{_≡_};
 ghost use Prim.Native.Nat.{_≤_, _<_};
 ghost use lib.Dec.{eqb};
-ghost use Rattle.chains.specs.Promises.{ChainCycles, ChainGives, Comparable, Gives, Holdable, Holders};
-ghost use Rattle.chains.specs.Promises.{LeavesRing, PlaceOf, Rather, Runnable, WaitsFor, Weighable};
+ghost use lib.ListN.{replicate};
+ghost use Rattle.chains.specs.Promises.{Comparable, Deadlines, Holdable, Holders};
+ghost use Rattle.chains.specs.Promises.{LeavesRing, PlaceOf, Rather, WaitsFor, Weighable};
 ghost use Rattle.columns.specs.Columns.{AtMost};
+ghost use Rattle.columns.specs.Ranges.{TermsInRange};
 ghost use Rattle.rules.specs.Plan.{endsBy};
-ghost use Rattle.rules.specs.TableText.{mostCycles, mostHolds, mostJobs, mostWorth};
+ghost use Rattle.rules.specs.TableText.{mostCycles, mostHolds, mostJobs, mostMhz, mostTime, mostWorth};
+ghost use Rattle.steps.specs.Deadlines.{cyclesBy};
 
 // The resources, from 0, which no H line names.
 pub const RESOURCES: usize = 33;
@@ -155,68 +159,29 @@ pub fn leaves_ring<'a>(
     met
 }
 
-// Steps 3 and 4, "A job's chain is itself, then the job it waits for, and so on": the sum of its cycles.
-pub fn chain_cycles<'a>(
-    place: usize,
-    waits: &'a [u64; MOST_JOBS],
-    cycles: &'a [u64; MOST_JOBS],
-) -> u64
-    requires { ⌜ AtMost mostCycles (now cycles) ⌝ }
-    ensures { λ r. ⌜ ChainCycles place (now (waits .entry)) (now (cycles .entry)) r ⌝ }
+// Step 4, "at or before its termination", told in cycles: the most that can have run by then, at this speed. By a time
+// before the clock none can.
+fn deadline(clock: u64, mhz: u64, termination: u64) -> u64
+    requires { ⌜ (mhz ≤ mostMhz) × (termination ≤ mostTime) ⌝ }
+    ensures { λ r. ⌜ r ≡ cyclesBy clock mhz termination ⌝ }
 {
-    let mut sum = 0;
-    let mut at = place;
-    let mut i = 0;
-    while i <= MOST_HOLDS {
-        if MOST_JOBS <= at {
-            return sum;
-        }
-        sum += cycles[at];
-        at = waits[at] as usize;
-        i += 1;
-    }
-    sum
-}
-
-// Step 4, "Each member that finishes at or before its termination gives its worth, else 0": it finishes after so many
-// cycles.
-fn gives(clock: u64, mhz: u64, cycles: u64, termination: u64, worth: u64) -> u64
-    requires { ⌜ Comparable clock mhz cycles termination ⌝ }
-    ensures { λ r. ⌜ Gives clock mhz cycles termination worth r ⌝ }
-{
-    if late(clock, mhz, cycles, termination) {
+    if termination <= clock {
         return 0;
     }
-    worth
+    (termination - clock) * mhz / 1000
 }
 
-// Step 4, "Run the chain alone from now at top speed": the sum of what its members give. The chain runs from the far end
-// to the job, so that a member ends when it and all behind it have run: after what is left of the chain's cycles.
-pub fn chain_gives<'a>(
-    place: usize,
-    waits: &'a [u64; MOST_JOBS],
-    cycles: &'a [u64; MOST_JOBS],
-    worth: &'a [u64; MOST_JOBS],
-    termination: &'a [u64; MOST_JOBS],
-    terms: Terms,
-    all: u64,
-) -> u64
-    requires { ⌜ Runnable place (now waits) (now cycles) (now worth) (now termination) terms all ⌝ }
-    ensures { λ r. ⌜ ChainGives place (now (waits .entry)) (now (cycles .entry)) (now (worth .entry)) (now (termination .entry)) terms r ⌝ }
+// Step 4, "from now at top speed": the deadline of each job, at the job's place, so that whoever runs jobs compares cycles
+// and multiplies no more. They are put into a lent column of zeros: a column handed back would be copied.
+pub fn deadlines(deadline_at: &mut [u64; MOST_JOBS], termination: &[u64; MOST_JOBS], terms: Terms)
+    requires { ⌜ (now «deadline_at» ≡ replicate mostJobs 0) × AtMost mostTime (now termination) × TermsInRange terms ⌝ }
+    ensures { λ _. ⌜ Deadlines (now (termination .entry)) terms (now («deadline_at» .exit)) ⌝ }
 {
-    let mut sum = 0;
-    let mut left = all;
-    let mut at = place;
+    let count = terms.job_count;
     let mut i = 0;
-    while i <= MOST_HOLDS {
-        if MOST_JOBS <= at {
-            return sum;
-        }
-        let own = cycles[at];
-        sum += gives(terms.clock, terms.mhz, left, termination[at], worth[at]);
-        left -= own;
-        at = waits[at] as usize;
+    while i < count {
+        let cycles = deadline(terms.clock, terms.mhz, termination[i]);
+        deadline_at[i] = cycles;
         i += 1;
     }
-    sum
 }

@@ -1,4 +1,6 @@
 pub mod Searches
+pub mod Halved
+pub mod Parts
 pub mod Sums
 pub mod Moved
 pub mod Entries

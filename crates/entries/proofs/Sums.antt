@@ -6,8 +6,7 @@ use Prim.Native.Nat.{ℕ, zero, suc, _+_, _*_, _≤_, _<_}
 use native.Mathlib.Omega.{arith}
 use lib.ListN.{getD, length}
 use Rattle.columns.specs.Columns.{AtMost, Column, jobsAt}
-use Rattle.entries.proofs.Searches.{withoutAt}
-use Rattle.entries.specs.Places.{withAt}
+use Rattle.entries.specs.Places.{withAt, withoutAt}
 use Rattle.entries.specs.Promises.{cyclesAt}
 use Rattle.rules.specs.Plan.{cyclesOf}
 use Rattle.rules.specs.TableText.{mostCycles}

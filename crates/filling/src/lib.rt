@@ -9,7 +9,7 @@ ghost use Rattle.laws.specs.Overwritten.{overwritten};
 ghost use Rattle.rules.specs.TableText.{mostJobs, padded};
 
 // The first `count` of a slice, put over those of another.
-pub fn copy_front(to: &mut [u64], from: &[u64], count: usize)
+fn copy_front(to: &mut [u64], from: &[u64], count: usize)
     requires { ⌜ (count ≤ length (now to)) × (count ≤ length (now from)) ⌝ }
     ensures { λ _. ⌜ now (to .exit) ≡ overwritten (now (from .entry)) (now (to .entry)) count ⌝ }
 {

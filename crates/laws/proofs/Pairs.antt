@@ -3,14 +3,14 @@
 use mathlib.Core.Bool.{Bool, true, false, cond, true≢false}
 use mathlib.Core.List.{List, [], _∷_, map}
 use mathlib.Core.Path.{_≡_, sym, ap, _∙_}
-use Prim.Native.Nat.{ℕ, suc, _≤_, _<_}
+use Prim.Native.Nat.{ℕ, zero, suc, _≤_, _<_}
 use native.Mathlib.Omega.{arith}
 use borrow.Author.Tests.{eqb-false, eqb-true}
 use lib.Dec.{eqb}
-use lib.ListN.{length}
+use lib.ListN.{getD, length}
 use Rattle.laws.specs.Pairs.{Distinct, Pairwise, among, no-pair, _then_}
 use Rattle.laws.proofs.Choices.{split}
-use Rattle.laws.proofs.Elements.{each-map, each-too}
+use Rattle.laws.proofs.Elements.{each-at-place, each-map, each-too}
 use Rattle.laws.proofs.Lookups.{each-both, each-keep, each-place}
 use Rattle.rules.specs.Lists.{Each, Rising, keep, no-element, none-left, one-element, putIn, _and_, _below_}
 
@@ -54,6 +54,14 @@ module _ {A : Type 0} where
       → Pairwise T xs
   pairs-both h no-pair no-pair = no-pair
   pairs-both h (r then rs) (s then ss) = each-both (λ y a b. h _ y a b) r s then pairs-both h rs ss
+
+  -- two elements, by their places
+  pub pairs-at-places : {R : A → A → Type 0} {xs : List A} (d : A) → Pairwise R xs → (i j : ℕ) → i < j → j < length xs
+      → R (getD xs i d) (getD xs j d)
+  pairs-at-places d no-pair i j l h = absurd (omega arith)
+  pairs-at-places d (r then rs) i zero l h = absurd (omega arith)
+  pairs-at-places d (r then rs) zero (suc j) l h = each-at-place d r j (omega arith)
+  pairs-at-places d (r then rs) (suc i) (suc j) l h = pairs-at-places d rs i j (omega arith) (omega arith)
 
   pub rising-pairs : {f : A → ℕ} {xs : List A} → Rising f xs → Pairwise (λ x y. f x < f y) xs
   rising-pairs no-element = no-pair

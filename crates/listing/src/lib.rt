@@ -181,7 +181,12 @@ fn list_plan(table: Table, budget: u64, out: &mut [u8]) -> Written
         holds,
         table.hold_count,
         table.job_count,
-        columns,
+        &columns.number,
+        &columns.cycles,
+        &columns.worth,
+        &columns.critical,
+        &columns.termination,
+        &columns.request,
         &mut no_order,
         &mut no_rooms,
     );

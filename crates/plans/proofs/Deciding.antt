@@ -98,10 +98,10 @@ module _ (table : Table) (budget : ℕ) (p : Plannable table budget) (all-speeds
     ranges : ColumnsInRange columns
     ranges = columns-in-range (recordsOf table .jobs) columns (p .valid .job-ranges) of
 
-    pub table-runnable : length (table .holds) ≡ mostHolds
+    pub table-runnable : length (table .holds) ≡ mostHolds → length (table .jobs) ≡ mostJobs
         → CourseRunnable (table .holds) (table .«hold_count») columns terms
     unfolding recordsOf
-    table-runnable all-holds = record {
+    table-runnable all-holds all-jobs = record {
       holdable =
           record {
             few-holds = p .few-holds;
@@ -114,6 +114,8 @@ module _ (table : Table) (budget : ℕ) (p : Plannable table budget) (all-speeds
           };
       columns-small = ranges;
       terms-small = terms-in-range;
+      table = withBudget (recordsOf table) budget;
+      of-table = record { valid = p .valid; terms-of = terms-of-table all-jobs; holds-of = refl; columns-of = of };
     }
 
     pub table-concludable : (course : CourseTaken) → PlacesOfJobs (course .totals .count) (course .places)

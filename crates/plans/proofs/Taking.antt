@@ -1,8 +1,8 @@
 -- The course of turns on places and keys: after each turn they stand for the plan of the rules' course so far, and the
 -- fates for its fates. Assumes nothing.
-use mathlib.Core.List.{List}
+use mathlib.Core.List.{List, [], _∷_, map}
 use mathlib.Core.Path.{_≡_, refl, sym, ap, _∙_}
-use Prim.Native.Nat.{ℕ, _+_, _*_, _-_, _≤_, _<_}
+use Prim.Native.Nat.{ℕ, suc, _+_, _*_, _-_, _≤_, _<_}
 use native.Mathlib.Omega.{arith}
 use lib.ListN.{getD, length, set, take}
 use lib.Seq.{getD-take, length-take-le}
@@ -13,18 +13,23 @@ use Rattle.columns.specs.declared.Terms.{Terms}
 use Rattle.entries.proofs.Found.{in-plan-among}
 use Rattle.entries.proofs.Sums.{cycles-of-jobs}
 use Rattle.entries.specs.Promises.{cyclesAt}
+use Rattle.laws.proofs.Elements.{each-map}
 use Rattle.plans.proofs.Courses.{fates-after, fates-at-start, one-more-turn, plan-after}
 use Rattle.plans.specs.Courses.{FatesByTurn, courseBy, jobAt, turnAt}
 use Rattle.plans.specs.Promises.{CourseBy, TurnsOf}
 use Rattle.plans.specs.declared.CourseTaken.{CourseTaken}
 use Rattle.ranks.specs.declared.Turns.{Turns}
-use Rattle.rules.specs.Lists.{Rising}
-use Rattle.rules.specs.Plan.{Course, Outcome, course, cyclesOf, inPlan, jobsOf, noTurnYet, runOrder, turn}
+use Rattle.rules.specs.Lists.{Each, Rising, none-left, _and_}
+use Rattle.rules.specs.Plan.{Course, Outcome, Turn, course, cyclesOf, inPlan, jobsOf, noTurnYet, runOrder, turn, turnOf}
 use Rattle.rules.specs.Rooms.{roomLeft}
 use Rattle.rules.specs.TableText.{Records}
-use Rattle.trials.specs.Promises.{OfJobs, PlanParts, TurnColumns, TurnOf, TurnTaken, planIn, planParts, plannedPlaces}
+use Rattle.trials.specs.Promises.{Kept, OfJobs, PlanParts, Remains, TurnColumns, TurnOf, TurnTaken, planIn, planParts, plannedPlaces}
 use Rattle.steps.proofs.RunOrder.{run-order}
 use Rattle.trials.specs.declared.JobInTurn.{JobInTurn}
+
+each-by-place : {P : ℕ → Type 0} (xs : List ℕ) → ((k : ℕ) → k < length xs → P (getD xs k 0)) → Each P xs
+each-by-place [] h = none-left
+each-by-place (x ∷ xs) h = h 0 (omega arith) and each-by-place xs (λ k l. h (suc k) (omega arith))
 
 -- places, keys and fates stand for a course
 pub record OnCourse (t : Records) (c : Course) (p : PlanParts) (fates : List ℕ) : Type 0 where
@@ -46,7 +51,18 @@ module _ (t : Records) (turns : Turns) (over : List ℕ) (columns : TurnColumns)
     fates-by-turn = fates-at-start t so-far (of .fates-so-far);
   }
 
+  -- the jobs whose turns were taken remain
+  turns-of-jobs : (ps : List ℕ) → map (turnAt t) ps ≡ map (turnOf t) (map (jobAt t) ps)
+  turns-of-jobs [] = refl
+  turns-of-jobs (p ∷ ps) = ap {B = List Turn} (λ is. turnAt t p ∷ is) (turns-of-jobs ps)
+
   module _ (i : ℕ) (turns-there : turns .count ≤ length order) (h : i < turns .count) where
+    taken-remain : (n : ℕ) → n ≤ turns .count → Each (Remains t) (map (jobAt t) (take n order))
+    taken-remain n l =
+        each-map (jobAt t) (each-by-place (take n order) (λ k m.
+        let short : k < n = omega (arith, length-take-le n order (omega arith)) in
+        rw (getD-take n order k 0 short) (of .remaining-jobs k (omega arith))))
+
     abbrev place : ℕ
     place = getD order i 0
 
@@ -62,19 +78,26 @@ module _ (t : Records) (turns : Turns) (over : List ℕ) (columns : TurnColumns)
     job = record { place = place; over = getD over place 0 }
 
     module _ (p : PlanParts) (fates : List ℕ) (on : OnCourse t (courseBy t order i) p fates) where
-      turn-of : TurnOf t p job columns terms
+      pub turn-of : TurnOf t p job columns terms
       turn-of = record {
         valid = of .valid;
         terms-of = of .terms-of;
         columns-of = of .columns-of;
         of-jobs = on .of-jobs;
+        of-turns = record {
+          taken = map (jobAt t) (take i order);
+          remain = taken-remain i (omega arith);
+          by-turns = on .plan ∙ ap (λ is. course t is noTurnYet .plan) (turns-of-jobs (take i order));
+        };
         place-of-job = of-job;
+        remains = of .remaining-jobs i h;
         over-of = of .over-of place of-job (of .remain i h);
       }
 
-      pub one-more-taken : (q : PlanParts) (fate : ℕ) → place < length fates → TurnTaken p job columns terms q fate
+      pub one-more-taken : (q : PlanParts) (kept : Kept) (changed fresh : List ℕ) (fate : ℕ) → place < length fates
+          → TurnTaken p job columns terms q kept changed fresh fate
           → OnCourse t (courseBy t order (i + 1)) q (set fates place fate)
-      one-more-taken q fate l taken =
+      one-more-taken q kept changed fresh fate l taken =
           let before = courseBy t order i in
           let left : Outcome = record { plan = planIn (t .jobs) q; fate = fate } in
           let goes : turn t (turnAt t place) (before .plan) ≡ left =

@@ -28,15 +28,8 @@ use Rattle.rules.specs.declared.Panel.{Panel}
 use Rattle.rules.specs.declared.Speed.{Speed}
 use Rattle.rules.specs.declared.Table.{Table}
 use Rattle.speeds.specs.Promises.{SpeedsInRange, SpeedsOf}
-use Rattle.trials.specs.Promises.{TurnColumns, TurnColumnsInRange, TurnColumnsOf}
+use Rattle.trials.specs.Promises.{Remains, TurnColumns, TurnColumnsInRange, TurnColumnsOf}
 use Rattle.trials.specs.declared.Totals.{Totals}
-
--- What the course of turns asks: places, columns and terms in their ranges.
-pub record Takeable (turns : Turns) (c : TurnColumns) (terms : Terms) : Type 0 where
-  pub few-turns : turns .count ≤ mostJobs
-  pub below : AllBelow mostJobs (take (turns .count) (turns .order))
-  pub columns-small : TurnColumnsInRange c
-  pub terms-small : TermsInRange terms
 
 -- Columns and terms are those of the table, and the order is one of jobs that steps 1 and 2 leave.
 pub record TurnsOf (t : Records) (turns : Turns) (over : List ℕ) (c : TurnColumns) (so-far : List ℕ) (terms : Terms)
@@ -47,8 +40,18 @@ pub record TurnsOf (t : Records) (turns : Turns) (over : List ℕ) (c : TurnColu
   pub fates-so-far : FatesSoFar t so-far
   pub of-jobs : AllBelow (length (t .jobs)) (take (turns .count) (turns .order))
   pub remain : (i : ℕ) → i < turns .count → getD so-far (getD (turns .order) i 0) 0 ≡ 0
+  pub remaining-jobs : (i : ℕ) → i < turns .count → Remains t (jobAt t (getD (turns .order) i 0))
   pub over-of : (i : ℕ) → i < length (t .jobs) → getD so-far i 0 ≡ 0
       → getD over i 0 ≡ ratioOf t (chainOf t (jobAt t i)) .over
+
+-- What the course of turns asks: places, columns and terms in their ranges, and a table that they are of.
+pub record Takeable (turns : Turns) (over : List ℕ) (c : TurnColumns) (so-far : List ℕ) (terms : Terms) : Type 0 where
+  pub few-turns : turns .count ≤ mostJobs
+  pub below : AllBelow mostJobs (take (turns .count) (turns .order))
+  pub columns-small : TurnColumnsInRange c
+  pub terms-small : TermsInRange terms
+  pub table : Records
+  pub of-table : TurnsOf table turns over c so-far terms
 
 -- What stands in places and fates is what a course of turns leaves.
 pub record CourseBy (t : Records) (c : Course) (r : CourseTaken) : Type 0 where
@@ -102,11 +105,20 @@ besides number cycles worth critical termination request = record {
   request = request;
 }
 
--- Counts, resources, columns and terms in their ranges.
+-- A valid table has these terms, holds and columns.
+pub record CourseOf (t : Records) (holds : List Hold) (hold-count : ℕ) (columns : Columns) (terms : Terms) : Type 0 where
+  pub valid : Valid t
+  pub terms-of : TermsOf t terms
+  pub holds-of : take hold-count holds ≡ t .holds
+  pub columns-of : ColumnsOf (t .jobs) columns
+
+-- Counts, resources, columns and terms in their ranges, and a table that they are of.
 pub record CourseRunnable (holds : List Hold) (hold-count : ℕ) (columns : Columns) (terms : Terms) : Type 0 where
   pub holdable : Holdable holds hold-count (terms .«job_count»)
   pub columns-small : ColumnsInRange columns
   pub terms-small : TermsInRange terms
+  pub table : Records
+  pub of-table : CourseOf table holds hold-count columns terms
 
 -- The course of the table's turns.
 pub record CourseRun (holds : List Hold) (hold-count : ℕ) (columns : Columns) (terms : Terms) (r : CourseTaken) : Type 0 where

@@ -1,11 +1,13 @@
 // Steps 5 to 9 of "From jobs to a plan": the course of turns, the fates, the plan of a valid table, and its rooms (document 02, A2).
-use columns::Columns;
+use chains::deadlines;
 use columns::Terms;
 use columns::columns_of;
+use entries::NOT_PLANNED;
 use filling::clear_behind;
 use filling::note;
 use filling::put_fates;
 use filling::put_order;
+use judgements::MOST_CHANGES;
 use ranks::Turns;
 use ranks::chain_ratios;
 use ranks::turn_order;
@@ -21,7 +23,6 @@ use rules::Speed;
 use rules::Table;
 use speeds::choose_speed;
 use trials::JobInTurn;
-use trials::NOT_PLANNED;
 use trials::Totals;
 use trials::turn;
 ghost use mathlib.Core.Path.{_≡_};
@@ -89,21 +90,24 @@ fn take_turns<'a>(
     waits: &'a [u64; MOST_JOBS],
     critical: &'a [u64; MOST_JOBS],
     cycles: &'a [u64; MOST_JOBS],
-    termination: &'a [u64; MOST_JOBS],
+    deadline: &'a [u64; MOST_JOBS],
     so_far: [u64; MOST_JOBS],
     terms: Terms,
     order: &mut [u64],
     rooms: &mut [u64],
 ) -> CourseTaken
-    requires { ⌜ Takeable turns (columnsRead (now waits) (now critical) (now cycles) (now termination)) terms ⌝ }
+    requires { ⌜ Takeable turns (now over) (columnsRead (now waits) (now critical) (now cycles) (now deadline)) «so_far» terms ⌝ }
     ensures { λ r. ⌜
-        TurnsTaken turns (now (over .entry)) (columnsRead (now (waits .entry)) (now (critical .entry)) (now (cycles .entry)) (now (termination .entry))) «so_far» terms r
-        × TurnsNoted (turns .count) turns (now (over .entry)) (columnsRead (now (waits .entry)) (now (critical .entry)) (now (cycles .entry)) (now (termination .entry))) «so_far» terms (now (order .entry)) (now (rooms .entry)) (now (order .exit)) (now (rooms .exit))
+        TurnsTaken turns (now (over .entry)) (columnsRead (now (waits .entry)) (now (critical .entry)) (now (cycles .entry)) (now (deadline .entry))) «so_far» terms r
+        × TurnsNoted (turns .count) turns (now (over .entry)) (columnsRead (now (waits .entry)) (now (critical .entry)) (now (cycles .entry)) (now (deadline .entry))) «so_far» terms (now (order .entry)) (now (rooms .entry)) (now (order .exit)) (now (rooms .exit))
         ⌝ }
 {
     let mut places = [0; MOST_JOBS];
     let mut keys = [NOT_PLANNED; MOST_JOBS];
-    let mut kept = [0; MOST_JOBS];
+    let mut ends = [0; MOST_JOBS];
+    let mut latests = [0; MOST_JOBS];
+    let mut changed = [0; MOST_CHANGES];
+    let mut fresh = [0; MOST_CHANGES];
     let mut totals = Totals {
         count: 0,
         cycles: 0,
@@ -119,13 +123,16 @@ fn take_turns<'a>(
         let turned = turn(
             &mut places,
             &mut keys,
-            &mut kept,
+            &mut ends,
+            &mut latests,
+            &mut changed,
+            &mut fresh,
             totals,
             job,
             waits,
             critical,
             cycles,
-            termination,
+            deadline,
             terms,
         );
         totals = turned.totals;
@@ -187,8 +194,10 @@ pub fn course_of<'a>(
         request,
         terms,
     );
-    let ratios = chain_ratios(&left.fates, &left.waits, cycles, worth, termination, terms);
+    let mut deadline = [0; MOST_JOBS];
+    deadlines(&mut deadline, termination, terms);
     let jobs = terms.job_count;
+    let ratios = chain_ratios(&left.fates, &left.waits, cycles, worth, &deadline, jobs);
     let turns = turn_order(&left.fates, number, &ratios.over, &ratios.under, jobs);
     let so_far = left.fates;
     take_turns(
@@ -197,7 +206,7 @@ pub fn course_of<'a>(
         &left.waits,
         critical,
         cycles,
-        termination,
+        &deadline,
         so_far,
         terms,
         order,
@@ -266,9 +275,9 @@ pub fn terms_of(
     }
 }
 
-// Steps 1 to 9 on a valid table, by its columns and its other parts: a whole table given to a function is copied. The turns are
-// noted as the course of turns notes them.
-pub fn decide(
+// Steps 1 to 9 on a valid table, by its columns, lent one by one, and its other parts: a whole table given to a function is copied,
+// and so are columns. The turns are noted as the course of turns notes them.
+pub fn decide<'a>(
     clock: u64,
     budget: u64,
     speeds: [Speed; MOST_SPEEDS],
@@ -276,38 +285,36 @@ pub fn decide(
     holds: [Hold; MOST_HOLDS],
     hold_count: usize,
     job_count: usize,
-    columns: Columns,
+    number: &'a [u64; MOST_JOBS],
+    cycles: &'a [u64; MOST_JOBS],
+    worth: &'a [u64; MOST_JOBS],
+    critical: &'a [u64; MOST_JOBS],
+    termination: &'a [u64; MOST_JOBS],
+    request: &'a [u64; MOST_JOBS],
     order: &mut [u64],
     rooms: &mut [u64],
 ) -> Decided
-    requires { ⌜ Decidable clock budget speeds «speed_count» holds «hold_count» «job_count» columns ⌝ }
+    requires { ⌜ Decidable clock budget speeds «speed_count» holds «hold_count» «job_count» (besides (now number) (now cycles) (now worth) (now critical) (now termination) (now request)) ⌝ }
     ensures { λ r. ⌜
-        Decides clock budget speeds «speed_count» holds «hold_count» «job_count» columns r
-        × DecisionNoted clock budget speeds «speed_count» holds «hold_count» «job_count» columns r (now (order .entry)) (now (rooms .entry)) (now (order .exit)) (now (rooms .exit))
+        Decides clock budget speeds «speed_count» holds «hold_count» «job_count» (besides (now (number .entry)) (now (cycles .entry)) (now (worth .entry)) (now (critical .entry)) (now (termination .entry)) (now (request .entry))) r
+        × DecisionNoted clock budget speeds «speed_count» holds «hold_count» «job_count» (besides (now (number .entry)) (now (cycles .entry)) (now (worth .entry)) (now (critical .entry)) (now (termination .entry)) (now (request .entry))) r (now (order .entry)) (now (rooms .entry)) (now (order .exit)) (now (rooms .exit))
         ⌝ }
 {
     let terms = terms_of(clock, budget, speeds, speed_count, job_count);
     let course = course_of(
         holds,
         hold_count,
-        &columns.number,
-        &columns.cycles,
-        &columns.worth,
-        &columns.critical,
-        &columns.termination,
-        &columns.request,
+        number,
+        cycles,
+        worth,
+        critical,
+        termination,
+        request,
         terms,
         order,
         rooms,
     );
-    conclude(
-        speeds,
-        speed_count,
-        &columns.cycles,
-        &columns.termination,
-        course,
-        terms,
-    )
+    conclude(speeds, speed_count, cycles, termination, course, terms)
 }
 
 // The planner on a valid table, with the budget beside it: the decision, and both buffers whole.
@@ -328,7 +335,12 @@ pub fn plan_table(table: Table, budget: u64, order: &mut [u64], fates: &mut [u64
         holds,
         table.hold_count,
         table.job_count,
-        columns,
+        &columns.number,
+        &columns.cycles,
+        &columns.worth,
+        &columns.critical,
+        &columns.termination,
+        &columns.request,
         &mut no_order,
         &mut no_rooms,
     );
@@ -360,7 +372,12 @@ pub fn rooms_of(table: Table, budget: u64, turns: &mut [u64], rooms: &mut [u64])
         holds,
         table.hold_count,
         table.job_count,
-        columns,
+        &columns.number,
+        &columns.cycles,
+        &columns.worth,
+        &columns.critical,
+        &columns.termination,
+        &columns.request,
         &mut order,
         rooms,
     );

@@ -1,6 +1,5 @@
-mod FilledBack
-mod RatiosBack
-mod Halved
+mod Trail
+mod SumsBack
 mod Placed
 mod Sorted
 mod Ordered

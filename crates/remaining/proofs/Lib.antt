@@ -1,2 +1,4 @@
 mod FilledTo
+mod Marks
 mod Staging
+mod Unawaited

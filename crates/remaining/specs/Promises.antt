@@ -15,7 +15,7 @@ use Rattle.columns.specs.declared.Terms.{Terms}
 use Rattle.remaining.specs.declared.Left.{Left}
 use Rattle.rules.specs.Lists.{Rising, keep}
 use Rattle.rules.specs.Plan.{awaited, fateDeadlock, leavesRing, waitsFor}
-use Rattle.rules.specs.TableText.{Records, mostResource, mostWorth, noJob}
+use Rattle.rules.specs.TableText.{Records, mostJobs, mostResource, mostWorth, noJob}
 use Rattle.rules.specs.Valid.{Valid}
 use Rattle.rules.specs.declared.Hold.{Hold}
 use Rattle.rules.specs.declared.Job.{Job}
@@ -30,9 +30,19 @@ pub record WaitsColumn (request holder-at fates : List ℕ) (job-count : ℕ) (r
       → Rising (λ j. j .number) js → Column (λ j. j .request) js request → HolderAt js holds holder-at
       → Remaining js remains fates → Waits js (waitsFor holds (keep remains js)) r
 
--- The fate before, or 3 for a job of fate 0 that leaves its ring.
-pub record RingFate (late place : ℕ) (waits number worth cycles : List ℕ) (r : ℕ) : Type 0 where
-  pub fate : (t : Records) (js : List Job) (next : Job → Option Job) → Rising (λ j. j .number) js
+-- none of the first jobs, up to a count, waits for the job at a place
+abbrev pub NobodyWaits : List ℕ → ℕ → ℕ → Type 0
+NobodyWaits waits count place = (k : ℕ) → k < count → getD waits k 0 ≡ place → ⊥
+
+-- Where 0 stands, none of the jobs waits for the one there.
+pub record Awaited (waits : List ℕ) (job-count : ℕ) (r : List ℕ) : Type 0 where
+  pub whole : length r ≡ mostJobs
+  pub unmarked : (place : ℕ) → place < mostJobs → getD r place 0 ≡ 0 → NobodyWaits waits job-count place
+
+-- The fate before, or 3 for a job of fate 0 that leaves its ring, provided that nobody waits for a job that is not awaited.
+pub record RingFate (late awaits place : ℕ) (waits number worth cycles : List ℕ) (r : ℕ) : Type 0 where
+  pub fate : (t : Records) (js : List Job) (next : Job → Option Job)
+      → (awaits ≡ 0 → NobodyWaits waits (length js) place) → Rising (λ j. j .number) js
       → Waits js next waits → place < length js → Column (λ j. j .number) js number
       → Column (λ j. j .worth) js worth → Column (λ j. j .cycles) js cycles
       → r

@@ -15,11 +15,12 @@ use rules::NO_FATE;
 ghost use mathlib.Core.Bool.{cond, not};
 ghost use mathlib.Core.Path.{_≡_};
 ghost use Prim.Native.Nat.{_≤_, _<_};
+ghost use lib.ListN.{length};
 ghost use Rattle.chains.specs.Promises.{Comparable};
 ghost use Rattle.columns.specs.Columns.{AtMost};
 ghost use Rattle.columns.specs.Ranges.{RunsInRange, TermsInRange};
-ghost use Rattle.remaining.specs.Promises.{LateFates, RingFate, RingFates, Stageable, Staged};
-ghost use Rattle.remaining.specs.Promises.{WaitsColumn};
+ghost use Rattle.remaining.specs.Promises.{Awaited, LateFates, RingFate, RingFates};
+ghost use Rattle.remaining.specs.Promises.{Stageable, Staged, WaitsColumn};
 ghost use Rattle.rules.specs.Plan.{endsBy, fateLate};
 ghost use Rattle.rules.specs.TableText.{mostCycles, mostHolds, mostJobs, mostWorth};
 
@@ -81,10 +82,27 @@ fn waits_column<'a>(
     waits
 }
 
+// Step 2, "A job waits for the remaining job": a mark, 1, at the place of each job that some job waits for.
+fn mark_awaited(marks: &mut [u64; MOST_JOBS], waits: &[u64; MOST_JOBS], job_count: usize)
+    requires { ⌜ («job_count» ≤ mostJobs) × (length (now marks) ≡ mostJobs) ⌝ }
+    ensures { λ _. ⌜ Awaited (now (waits .entry)) «job_count» (now (marks .exit)) ⌝ }
+{
+    let mut i = 0;
+    while i < job_count {
+        let holder = waits[i] as usize;
+        i += 1;
+        if MOST_JOBS <= holder {
+            continue;
+        }
+        marks[holder] = 1;
+    }
+}
+
 // Step 2, "On each ring of waiting jobs, the one .. is taken out (fate 3)": the fate of the job at this place, from the
-// one that step 1 gave it.
+// one that step 1 gave it. A job for which nobody waits, `awaited` 0, is on no ring, and its chain is not walked.
 fn ring_fate<'a>(
     late: u64,
+    awaited: u64,
     place: usize,
     waits: &'a [u64; MOST_JOBS],
     number: &'a [u64; MOST_JOBS],
@@ -92,10 +110,13 @@ fn ring_fate<'a>(
     cycles: &'a [u64; MOST_JOBS],
 ) -> u64
     requires { ⌜ (place < mostJobs) × AtMost mostWorth (now worth) × AtMost mostCycles (now cycles) ⌝ }
-    ensures { λ r. ⌜ RingFate late place (now (waits .entry)) (now (number .entry)) (now (worth .entry)) (now (cycles .entry)) r ⌝ }
+    ensures { λ r. ⌜ RingFate late awaited place (now (waits .entry)) (now (number .entry)) (now (worth .entry)) (now (cycles .entry)) r ⌝ }
 {
     if late != NO_FATE {
         return late;
+    }
+    if awaited == 0 {
+        return NO_FATE;
     }
     if leaves_ring(place, waits, number, worth, cycles) {
         return FATE_DEADLOCK;
@@ -103,7 +124,8 @@ fn ring_fate<'a>(
     NO_FATE
 }
 
-// Step 2, "On each ring": the fates of step 1, with 3 at the place of each job that leaves its ring.
+// Step 2, "On each ring": the fates of step 1, with 3 at the place of each job that leaves its ring. Who is awaited is
+// marked in the column of the fates itself: each mark is read once, and the fate is stored over it.
 fn ring_fates<'a>(
     late: &'a [u64; MOST_JOBS],
     waits: &'a [u64; MOST_JOBS],
@@ -116,9 +138,10 @@ fn ring_fates<'a>(
     ensures { λ r. ⌜ RingFates (now (late .entry)) (now (waits .entry)) (now (number .entry)) (now (worth .entry)) (now (cycles .entry)) «job_count» r ⌝ }
 {
     let mut fates = [NO_FATE; MOST_JOBS];
+    mark_awaited(&mut fates, waits, job_count);
     let mut i = 0;
     while i < job_count {
-        let fate = ring_fate(late[i], i, waits, number, worth, cycles);
+        let fate = ring_fate(late[i], fates[i], i, waits, number, worth, cycles);
         fates[i] = fate;
         i += 1;
     }

@@ -1,4 +1,5 @@
 pub mod Running
+pub mod Deadlines
 mod Ranks
 pub mod Jobs
 pub mod Walks

@@ -1,5 +1,12 @@
+pub mod FarFirst
 mod Once
-mod Members
-mod Walked
+mod Making
+mod Accepting
+mod Walking
+mod Settled
+mod Renewing
+mod Leaving
+mod Turning
+mod Settling
 mod Judged
 mod Taken

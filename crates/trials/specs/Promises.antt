@@ -1,26 +1,33 @@
 -- What the functions of steps 6 and 7 ask and promise.
-use mathlib.Core.Bool.{cond}
-use mathlib.Core.List.{List}
-use mathlib.Core.Option.{Option}
+use mathlib.Core.Bool.{Bool, cond}
+use mathlib.Core.List.{List, _∷_, _++_, map, reverse}
+use mathlib.Core.Option.{Option, some}
 use mathlib.Core.Path.{_≡_}
-use Prim.Native.Nat.{ℕ, _+_, _*_, _≤_, _<_}
+use Prim.Native.Nat.{ℕ, _+_, _-_, _*_, _≤_, _<_}
 use lib.Dec.{ltb}
-use lib.ListN.{getD, length, take}
-use Rattle.chains.specs.Waits.{Waits}
-use Rattle.columns.specs.Columns.{AllBelow, AtMost, Column, RunsOf, TermsOf, entriesIn, jobsAt}
-use Rattle.columns.specs.Ranges.{RunsInRange, TermsInRange}
+use lib.ListN.{drop, getD, length, take}
+use Rattle.chains.specs.Promises.{mostMembers}
+use Rattle.chains.specs.Waits.{Waits, placesFrom}
+use Rattle.changes.specs.Changes.{changesAlong, merged, staying}
+use Rattle.columns.specs.Columns.{AllBelow, AtMost, Column, TermsOf, entriesIn}
+use Rattle.columns.specs.Ranges.{TermsInRange}
 use Rattle.columns.specs.declared.Terms.{Terms}
+use Rattle.entries.specs.Places.{Sorted, notPlanned, part}
 use Rattle.entries.specs.Promises.{JobPlaces, cyclesAt}
-use Rattle.laws.specs.Pairs.{Distinct, Pairwise, among}
-use Rattle.rules.specs.Lists.{Rising}
-use Rattle.rules.specs.Plan.{Entry, awaited, begin, chainOf, endsLate, fateBudget, fatePlanned, fateTime, member, runOrder}
-use Rattle.rules.specs.Plan.{members, ratioOf, tooDear, turn, turnOf, waitsLeft}
+use Rattle.judgements.specs.Changes.{WellNoted, entriesOf, farFirst, mostChanges, placesOf}
+use Rattle.judgements.specs.Promises.{EndsTrue, LatestsTrue, noBound}
+use Rattle.judgements.specs.declared.Noted.{Noted}
+use Rattle.laws.specs.Pairs.{Distinct, among}
+use Rattle.rules.specs.Lists.{Each, Rising, find, keep, onlyIf, total}
+use Rattle.rules.specs.Plan.{Entry, awaited, chainOf, course, left, noTurnYet, ratioOf, same, topOf, turn, turnOf, waitsLeft}
 use Rattle.rules.specs.TableText.{Records, mostCycles, mostJobs, mostTime, noJob}
 use Rattle.rules.specs.Valid.{Valid}
 use Rattle.rules.specs.declared.Job.{Job}
+use Rattle.steps.specs.Deadlines.{deadlineOf}
 use Rattle.trials.specs.declared.JobInTurn.{JobInTurn}
-use Rattle.trials.specs.declared.MidTrial.{MidTrial}
 use Rattle.trials.specs.declared.Totals.{Totals}
+use Rattle.trials.specs.declared.Untouched.{Untouched}
+use Rattle.trials.specs.declared.Walked.{Walked}
 
 -- A plan as the code has it: its totals, the places of its jobs in plan order, and the key of each job at the job's place.
 pub record PlanParts : Type 0 where
@@ -35,33 +42,29 @@ planParts totals places keys = record { totals = totals; places = places; keys =
 abbrev pub plannedPlaces : PlanParts → List ℕ
 plannedPlaces p = take (p .totals .count) (p .places)
 
--- the totals with one entry more, of so many cycles
-abbrev pub oneMore : Totals → ℕ → Totals
-oneMore totals cycles = record { count = totals .count + 1; cycles = totals .cycles + cycles }
-
 -- the plan record's total is the sum of all entries' cycles
 abbrev pub TotalTrue : List ℕ → PlanParts → Type 0
 TotalTrue cycles p = p .totals .cycles ≡ cyclesAt cycles (plannedPlaces p)
 
--- The key of a job that is not in the plan: above every time.
-abbrev pub notPlanned : ℕ
-notPlanned = mostTime + 1
+-- a place is in the plan, by its key
+abbrev pub isPlanned : List ℕ → ℕ → Bool
+isPlanned keys p = ltb (getD keys p 0) notPlanned
 
--- each place's key is at most that of each place behind it
-abbrev pub Sorted : List ℕ → List ℕ → Type 0
-Sorted keys ps = Pairwise (λ p q. getD keys p 0 ≤ getD keys q 0) ps
+-- Places of jobs in the order of their keys, none twice: so there are no more entries than places. The keys tell which jobs are in
+-- the plan.
+pub record EntriesStand (count : ℕ) (places keys : List ℕ) : Type 0 where
+  pub places-length : length places ≡ mostJobs
+  pub keys-length : length keys ≡ mostJobs
+  pub few : count ≤ mostJobs
+  pub below : AllBelow mostJobs (take count places)
+  pub once : Distinct (take count places)
+  pub sorted : Sorted keys (take count places)
+  pub keys-tell : (place : ℕ) → place < mostJobs → isPlanned keys place ≡ among (take count places) place
 
--- A plan of places of jobs in the order of their keys, none twice: so it has no more entries than there are places. The
--- keys tell which jobs are in it.
+-- A plan of such entries.
 pub record PlanStanding (p : PlanParts) : Type 0 where
-  pub places-length : length (p .places) ≡ mostJobs
-  pub keys-length : length (p .keys) ≡ mostJobs
-  pub few : p .totals .count ≤ mostJobs
+  pub entries-stand : EntriesStand (p .totals .count) (p .places) (p .keys)
   pub cycles-small : p .totals .cycles ≤ mostCycles * p .totals .count
-  pub below : AllBelow mostJobs (plannedPlaces p)
-  pub once : Distinct (plannedPlaces p)
-  pub sorted : Sorted (p .keys) (plannedPlaces p)
-  pub keys-tell : (place : ℕ) → place < mostJobs → ltb (getD (p .keys) place 0) notPlanned ≡ among (plannedPlaces p) place
 
 -- the entries of a plan
 abbrev pub planIn : List Job → PlanParts → List Entry
@@ -71,122 +74,171 @@ planIn js p = entriesIn js (p .keys) (plannedPlaces p)
 abbrev pub OfJobs : List Job → PlanParts → Type 0
 OfJobs js p = AllBelow (length js) (plannedPlaces p)
 
--- A plan in mid-trial: the plan, the limit, and an index to look at first.
-pub record TrialParts : Type 0 where
-  pub plan : PlanParts
-  pub limit : ℕ
-  pub near : ℕ
+-- What is kept of the entries, at their jobs' places.
+pub record Kept : Type 0 where
+  pub ends : List ℕ
+  pub latests : List ℕ
 
-abbrev pub trialParts : MidTrial → List ℕ → List ℕ → TrialParts
-trialParts from places keys = record { plan = planParts (from .totals) places keys; limit = from .limit; near = from .near }
+abbrev pub keptOf : List ℕ → List ℕ → Kept
+keptOf ends latests = record { ends = ends; latests = latests }
 
--- A plan in mid-trial, with a limit in its range and an index of the plan.
-pub record TrialStanding (s : TrialParts) : Type 0 where
-  pub standing : PlanStanding (s .plan)
-  pub limit-small : s .limit ≤ mostTime
-  pub near-inside : s .near < s .plan .totals .count
+-- The cycles run by their ends, and their latest beginnings.
+pub record KeptTrue (cycles deadline ps : List ℕ) (kept : Kept) : Type 0 where
+  pub ends-length : length (kept .ends) ≡ mostJobs
+  pub latests-length : length (kept .latests) ≡ mostJobs
+  pub ends-true : EndsTrue (length ps) cycles ps (kept .ends)
+  pub latests-true : LatestsTrue 0 cycles deadline ps (kept .latests)
 
--- With the place of a member of the chain, and cycles in their range.
-pub record Membered (s : TrialParts) (place : ℕ) (cycles : List ℕ) : Type 0 where
-  pub on-trial : TrialStanding s
+-- the keys tell a job's key in the plan, if it has one
+abbrev pub KeysTell : List Job → List ℕ → (Job → Option ℕ) → Type 0
+KeysTell js keys key = (p : ℕ) → p < length js → key (getD js p noJob) ≡ onlyIf (isPlanned keys p) (getD keys p 0)
+
+-- A place that is not in the plan, from which a walk meets no place twice; columns in their ranges.
+pub record Walkable (place : ℕ) (keys waits critical cycles changed fresh : List ℕ) : Type 0 where
+  pub changed-length : length changed ≡ mostChanges
+  pub fresh-length : length fresh ≡ mostChanges
   pub place-below : place < mostJobs
-  pub cycles-small : AtMost mostCycles cycles
-
--- A member's step: the plan with the limit, as the rules leave both, and a total that stays true.
-pub record Member (before : TrialParts) (place critical : ℕ) (cycles : List ℕ) (after : TrialParts) : Type 0 where
-  pub standing : PlanStanding (after .plan)
-  pub not-above : after .limit ≤ before .limit
-  pub near-inside : after .near < after .plan .totals .count
-  pub limited : (js : List Job) → Rising (λ j. j .number) js → OfJobs js (before .plan) → place < length js
-      → getD js place noJob .critical ≡ critical
-      → record { limit = after .limit; plan = planIn js (after .plan) }
-      ≡ member (getD js place noJob) (record { limit = before .limit; plan = planIn js (before .plan) })
-  pub of-jobs : (js : List Job) → OfJobs js (before .plan) → place < length js → OfJobs js (after .plan)
-  pub total-true : TotalTrue cycles (before .plan) → TotalTrue cycles (after .plan)
-  pub no-fall : before .plan .totals .cycles ≤ after .plan .totals .cycles
-
--- A plan, a place that is not in it, and critical times and cycles in their ranges.
-pub record Triable (p : PlanParts) (place : ℕ) (critical cycles : List ℕ) : Type 0 where
-  pub standing : PlanStanding p
-  pub place-below : place < mostJobs
-  pub not-planned : notPlanned ≤ getD (p .keys) place 0
+  pub not-planned : notPlanned ≤ getD keys place 0
+  pub apart : Distinct (placesFrom waits mostMembers place)
   pub critical-small : AtMost mostTime critical
   pub cycles-small : AtMost mostCycles cycles
 
--- A trial: the plan as the rules leave it, and a total that stays true.
-pub record Tried (before : PlanParts) (place : ℕ) (waits critical cycles : List ℕ) (after : PlanParts) : Type 0 where
-  pub standing : PlanStanding after
-  pub plan : (js : List Job) (next : Job → Option Job) → Rising (λ j. j .number) js → Waits js next waits
-      → Column (λ j. j .critical) js critical → OfJobs js before → place < length js
-      → planIn js after
-      ≡ members (awaited next (getD js place noJob)) (begin (getD js place noJob) (planIn js before)) .plan
-  pub of-jobs : (js : List Job) (next : Job → Option Job) → Waits js next waits → OfJobs js before
-      → place < length js → OfJobs js after
-  pub total-true : TotalTrue cycles before → TotalTrue cycles after
-  pub no-fall : before .totals .cycles ≤ after .totals .cycles
+-- The walk of a trial: what it noted are the changes of the rules, from the far end on.
+pub record WalkNoted (place : ℕ) (keys waits critical cycles changed' fresh' : List ℕ) (w : Walked) : Type 0 where
+  pub changed-length : length changed' ≡ mostChanges
+  pub fresh-length : length fresh' ≡ mostChanges
+  pub some : 1 ≤ w .noted .changes
+  pub few : w .noted .changes ≤ mostChanges
+  pub well-noted : WellNoted (farFirst (w .noted .changes) changed' fresh') keys
+  pub moved-of : w .noted .moved ≡ length (keep (isPlanned keys) (placesOf (farFirst (w .noted .changes) changed' fresh')))
+  pub added-of : w .added
+      ≡ total (λ p. cond (isPlanned keys p) 0 (getD cycles p 0)) (placesOf (farFirst (w .noted .changes) changed' fresh'))
+  pub changes-of : (js : List Job) (next : Job → Option Job) (key : Job → Option ℕ) → Waits js next waits
+      → Column (λ j. j .critical) js critical → KeysTell js keys key → place < length js
+      → let job = getD js place noJob in
+      entriesOf js (farFirst (w .noted .changes) changed' fresh')
+      ≡ reverse (record { job = job; key = job .critical } ∷ changesAlong key (job .critical) (awaited next job))
+  pub of-jobs : (js : List Job) (next : Job → Option Job) → Waits js next waits → place < length js
+      → (i : ℕ) → i < w .noted .changes → getD changed' i 0 < length js
 
--- Places of jobs with the sum of their cycles, and columns and terms in their ranges: no sum or product wraps.
-pub record Judgeable (places : List ℕ) (all-cycles : ℕ) (cycles termination : List ℕ) (terms : Terms) : Type 0 where
-  pub job-places : JobPlaces places
-  pub all-cycles-of : all-cycles ≡ cyclesAt cycles places
-  pub runs-small : RunsInRange cycles termination
-  pub terms-small : TermsInRange terms
+-- Places of jobs, and changes.
+pub record Touchable (ps : List ℕ) (noted : Noted) : Type 0 where
+  pub places : JobPlaces ps
+  pub some : 1 ≤ noted .changes
+  pub few : noted .changes ≤ mostChanges
+  pub moved-few : noted .moved ≤ noted .changes
 
--- A trial's fate, by the jobs at its places; what is planned is within budget.
-pub record FateJudged (places : List ℕ) (all-cycles : ℕ) (cycles termination : List ℕ) (terms : Terms) (r : ℕ) : Type 0 where
-  pub fate : (t : Records) → TermsOf t terms → RunsOf (t .jobs) cycles termination
-      → (q : List Entry) → runOrder t q ≡ jobsAt (t .jobs) places
-      → r ≡ cond (endsLate t q) fateTime (cond (tooDear t q) fateBudget fatePlanned)
-  pub within : r ≡ fatePlanned → all-cycles * terms .cost ≤ terms .budget
+-- What a trial leaves as it stands: the places with keys below all changes', and behind them so many that are moved to where they
+-- stand.
+pub record LeftUntouched (ps keys changed fresh : List ℕ) (noted : Noted) (r : Untouched) : Type 0 where
+  pub inside : r .below + r .settled ≤ length ps
+  pub settled-few : r .settled ≤ noted .moved
+  pub lower : Sorted keys ps → (i : ℕ) → i < r .below → getD keys (getD ps i 0) 0 < getD fresh (noted .changes - 1) 0
+  pub settle : take (r .settled) (drop (r .below) ps) ≡ take (r .settled) (placesOf (farFirst (noted .changes) changed fresh))
+
+-- the changes without those that stand already where they are to stand
+abbrev pub withoutSettled : Noted → ℕ → Noted
+withoutSettled noted settled = record { changes = noted .changes - settled; moved = noted .moved - settled }
+
+-- A plan, and changes to make behind its first `from` entries, which have lower keys than these.
+pub record Acceptable (count : ℕ) (places keys changed fresh : List ℕ) (changes from : ℕ) : Type 0 where
+  pub stand : EntriesStand count places keys
+  pub from-inside : from ≤ count
+  pub few : changes ≤ mostChanges
+  pub well-noted : WellNoted (farFirst changes changed fresh) keys
+  pub lower : (i : ℕ) → i < from → Each (λ c. getD keys (getD places i 0) 0 < c .key) (farFirst changes changed fresh)
+
+-- The changes are made: the plan is the merge.
+pub record Accepted (count : ℕ) (places keys changed fresh : List ℕ) (changes from : ℕ) (places' keys' : List ℕ) (r : ℕ)
+    : Type 0 where
+  pub stand : EntriesStand r places' keys'
+  pub no-fewer : count ≤ r
+  pub merge : (js : List Job) → Rising (λ j. j .number) js → AllBelow (length js) (take count places)
+      → ((i : ℕ) → i < changes → getD changed i 0 < length js)
+      → let cs = entriesOf js (farFirst changes changed fresh) in
+      entriesIn js keys' (take r places')
+      ≡ entriesIn js keys (take from places) ++ merged cs (staying cs (entriesIn js keys (part from count places)))
+  pub of-jobs : (js : List Job) → AllBelow (length js) (take count places)
+      → ((i : ℕ) → i < changes → getD changed i 0 < length js) → AllBelow (length js) (take r places')
+
+-- Places, none twice, and a column of what is kept of them; cycles in their range: no sum wraps.
+pub record Renewable (ps kept cycles : List ℕ) : Type 0 where
+  pub places : JobPlaces ps
+  pub once : Distinct ps
+  pub kept-length : length kept ≡ mostJobs
+  pub cycles-small : AtMost mostCycles cycles
 
 -- The columns that a turn reads.
 pub record TurnColumns : Type 0 where
   pub waits : List ℕ
   pub critical : List ℕ
   pub cycles : List ℕ
-  pub termination : List ℕ
+  pub deadline : List ℕ
 
 abbrev pub columnsRead : List ℕ → List ℕ → List ℕ → List ℕ → TurnColumns
-columnsRead waits critical cycles termination =
-    record { waits = waits; critical = critical; cycles = cycles; termination = termination }
+columnsRead waits critical cycles deadline =
+    record { waits = waits; critical = critical; cycles = cycles; deadline = deadline }
 
 -- They are in their ranges.
 pub record TurnColumnsInRange (c : TurnColumns) : Type 0 where
   pub critical-small : AtMost mostTime (c .critical)
-  pub runs-small : RunsInRange (c .cycles) (c .termination)
+  pub cycles-small : AtMost mostCycles (c .cycles)
+  pub deadline-small : (p : ℕ) → getD (c .deadline) p 0 < noBound
 
--- They are those of the table: whom each job waits for among those that steps 1 and 2 leave, and the jobs' fields.
+-- They are those of the table: whom each job waits for among those that steps 1 and 2 leave, the jobs' fields, and their deadlines.
 pub record TurnColumnsOf (t : Records) (c : TurnColumns) : Type 0 where
   pub waits-left : Waits (t .jobs) (waitsLeft t) (c .waits)
   pub critical-of : Column (λ j. j .critical) (t .jobs) (c .critical)
-  pub runs-of : RunsOf (t .jobs) (c .cycles) (c .termination)
+  pub cycles-of : Column (λ j. j .cycles) (t .jobs) (c .cycles)
+  pub deadline-of : Column (deadlineOf (t .clock) (topOf t .mhz)) (t .jobs) (c .deadline)
 
--- A plan, a place, and columns and terms in their ranges: no sum or product wraps.
-pub record Turnable (p : PlanParts) (job : JobInTurn) (c : TurnColumns) (terms : Terms) : Type 0 where
-  pub standing : PlanStanding p
-  pub total-true : TotalTrue (c .cycles) p
-  pub place-below : job .place < mostJobs
-  pub columns-small : TurnColumnsInRange c
-  pub terms-small : TermsInRange terms
+-- a job that steps 1 and 2 leave
+abbrev pub Remains : Records → Job → Type 0
+Remains t j = find (same j) (left t) ≡ some j
 
--- Columns and terms are those of the table, and so are the places of the plan and the job whose turn it is.
+-- The plan that turns of such jobs leave, one after the other.
+pub record PlanOfTurns (t : Records) (p : List Entry) : Type 0 where
+  pub taken : List Job
+  pub remain : Each (Remains t) taken
+  pub by-turns : p ≡ course t (map (turnOf t) taken) noTurnYet .plan
+
+-- Columns and terms are those of the table, the plan is one that its turns leave, and the job whose turn it is remains.
 pub record TurnOf (t : Records) (p : PlanParts) (job : JobInTurn) (c : TurnColumns) (terms : Terms) : Type 0 where
   pub valid : Valid t
   pub terms-of : TermsOf t terms
   pub columns-of : TurnColumnsOf t c
   pub of-jobs : OfJobs (t .jobs) p
+  pub of-turns : PlanOfTurns t (planIn (t .jobs) p)
   pub place-of-job : job .place < length (t .jobs)
+  pub remains : Remains t (getD (t .jobs) (job .place) noJob)
   pub over-of : job .over ≡ ratioOf t (chainOf t (getD (t .jobs) (job .place) noJob)) .over
 
--- A turn: the plan and the fate as the rules leave them. The record's total is the sum of all entries' cycles, after an accepted
--- and after a dropped trial; it never falls, and at top cost it stays within budget.
-pub record TurnTaken (before : PlanParts) (job : JobInTurn) (c : TurnColumns) (terms : Terms) (after : PlanParts) (fate : ℕ)
+-- A plan with what is kept of it and a place, of a table; columns and terms in their ranges: no sum or product wraps.
+pub record Turnable (p : PlanParts) (kept : Kept) (changed fresh : List ℕ) (job : JobInTurn) (c : TurnColumns) (terms : Terms)
     : Type 0 where
+  pub standing : PlanStanding p
+  pub total-true : TotalTrue (c .cycles) p
+  pub kept-true : KeptTrue (c .cycles) (c .deadline) (plannedPlaces p) kept
+  pub changed-length : length changed ≡ mostChanges
+  pub fresh-length : length fresh ≡ mostChanges
+  pub place-below : job .place < mostJobs
+  pub columns-small : TurnColumnsInRange c
+  pub terms-small : TermsInRange terms
+  pub table : Records
+  pub of-table : TurnOf table p job c terms
+
+-- A turn: the plan and the fate as the rules leave them. The record's total is the sum of all entries' cycles, after an accepted
+-- and after a dropped trial; it never falls, and at top cost it stays within budget. What is kept is true of the plan.
+pub record TurnTaken (before : PlanParts) (job : JobInTurn) (c : TurnColumns) (terms : Terms) (after : PlanParts) (kept' : Kept)
+    (changed' fresh' : List ℕ) (fate : ℕ) : Type 0 where
   pub standing : PlanStanding after
   pub outcome : (t : Records) → TurnOf t before job c terms
       → record { plan = planIn (t .jobs) after; fate = fate }
       ≡ turn t (turnOf t (getD (t .jobs) (job .place) noJob)) (planIn (t .jobs) before)
   pub of-jobs : (t : Records) → TurnOf t before job c terms → OfJobs (t .jobs) after
   pub total-true : TotalTrue (c .cycles) after
+  pub kept-true : KeptTrue (c .cycles) (c .deadline) (plannedPlaces after) kept'
+  pub changed-length : length changed' ≡ mostChanges
+  pub fresh-length : length fresh' ≡ mostChanges
   pub no-fall : before .totals .cycles ≤ after .totals .cycles
   pub within : before .totals .cycles * terms .cost ≤ terms .budget → after .totals .cycles * terms .cost ≤ terms .budget

@@ -1,27 +1,27 @@
-// Steps 6 and 7 of "From jobs to a plan": a job's trial along its chain, and its turn. The plan is the first so many of
-// a lent column of places of jobs in the table. The key of each job stands in another, at the job's place.
+// Steps 6 and 7 of "From jobs to a plan", by what a trial changes (document 02, A4): a walk along the chain notes the changes, from
+// keys alone, the order that they would make is judged, and only an accepted trial moves anything. The plan is the first so many of
+// a lent column of places of jobs in the table. The key of each job stands in another, at the job's place, and what is kept of its
+// entry in two more: the cycles run by its end, and its latest beginning.
 use columns::Terms;
-use entries::in_time;
-use entries::index_of;
+use entries::NOT_PLANNED;
 use entries::insert;
-use filling::copy_front;
-use rules::FATE_BUDGET;
+use entries::move_up;
+use entries::place_for;
+use judgements::MOST_CHANGES;
+use judgements::Noted;
+use judgements::judge;
+use judgements::latest_at;
+use judgements::run_before;
 use rules::FATE_PLANNED;
 use rules::FATE_RATIO_ZERO;
-use rules::FATE_TIME;
 use rules::MOST_HOLDS;
 use rules::MOST_JOBS;
-ghost use mathlib.Core.Bool.{cond, not};
 ghost use mathlib.Core.Path.{_≡_};
-ghost use Prim.Native.Nat.{_*_, _≤_, _<_, min};
-ghost use lib.Dec.{ltb};
-ghost use Rattle.rules.specs.Plan.{fateBudget, fatePlanned, fateTime};
-ghost use Rattle.rules.specs.TableText.{mostCycles, mostJobs};
-ghost use Rattle.trials.specs.Promises.{FateJudged, Judgeable, Member, Membered, Triable, Tried, Turnable, TurnTaken};
-ghost use Rattle.trials.specs.Promises.{columnsRead, oneMore, planParts, trialParts};
-
-// The key of a job that is not in the plan: above every time.
-pub const NOT_PLANNED: u64 = 1000000001;
+ghost use Prim.Native.Nat.{_-_, _≤_, min};
+ghost use lib.ListN.{length};
+ghost use Rattle.judgements.specs.Promises.{EndsTrue, LatestsTrue};
+ghost use Rattle.trials.specs.Promises.{Acceptable, Accepted, LeftUntouched, Renewable, Touchable, Turnable, TurnTaken, Walkable, WalkNoted};
+ghost use Rattle.trials.specs.Promises.{columnsRead, keptOf, planParts};
 
 // The plan record, by value beside the lent columns of its places and keys: how many entries it has, and the sum of their
 // cycles. So no pass over the entries adds them up again.
@@ -36,12 +36,17 @@ pub struct JobInTurn {
     pub over: u64,
 }
 
-// A plan in mid-trial: its totals, the limit, and where the next member is looked for first. A member that is moved
-// leaves its index to the entry before it, which often is the next member.
-pub struct MidTrial {
-    pub totals: Totals,
-    pub limit: u64,
-    pub near: usize,
+// What a walk noted: the changes, and the cycles of those that come in.
+pub struct Walked {
+    pub noted: Noted,
+    pub added: u64,
+}
+
+// What a trial leaves as it stands: how many entries below all changes, and how many moved ones behind them that stand already
+// where they are to stand.
+pub struct Untouched {
+    pub below: usize,
+    pub settled: usize,
 }
 
 // What a turn leaves: the plan's totals, and the fate of the turn's job.
@@ -50,154 +55,191 @@ pub struct Turned {
     pub fate: u64,
 }
 
-// Step 6, "lowers the limit to its critical time if that is less".
-fn lower(limit: u64, critical: u64) -> u64
-    ensures { λ r. ⌜ r ≡ min limit critical ⌝ }
+// The lower of two: step 6, "lowers the limit to its critical time if that is less".
+fn lower(one: u64, other: u64) -> u64
+    ensures { λ r. ⌜ r ≡ min one other ⌝ }
 {
-    if critical < limit {
-        return critical;
+    if other < one {
+        return other;
     }
-    limit
+    one
 }
 
-// The totals with one entry more.
-fn with_entry(totals: Totals, cycles: u64) -> Totals
-    requires { ⌜ (totals .count < mostJobs) × (totals .cycles ≤ mostCycles * totals .count) × (cycles ≤ mostCycles) ⌝ }
-    ensures { λ r. ⌜ r ≡ oneMore totals cycles ⌝ }
-{
-    Totals {
-        count: totals.count + 1,
-        cycles: totals.cycles + cycles,
-    }
-}
-
-// Step 6, for one member of the chain: "in the plan with key below the limit stays ..; one with key at or above the
-// limit is removed and inserted at the limit; one not in the plan lowers the limit ..".
-fn member(
-    places: &mut [u64],
-    keys: &mut [u64; MOST_JOBS],
-    from: MidTrial,
+// Step 6, "Trial", from keys alone: the job at this place, which is not in the plan, and then along its chain to the far end. "a
+// member in the plan with key below the limit stays, and the limit becomes that key; one with key at or above the limit is removed
+// and inserted at the limit; one not in the plan lowers the limit .. and is inserted at the limit": what changes is noted.
+fn walk<'a>(
+    changed: &mut [u64; MOST_CHANGES],
+    fresh: &mut [u64; MOST_CHANGES],
     place: usize,
-    critical: u64,
-    cycles: &[u64; MOST_JOBS],
-) -> MidTrial
-    requires { ⌜ Membered (trialParts from (now places) (now keys)) place (now cycles) ⌝ }
-    ensures { λ r. ⌜ Member (trialParts from (now (places .entry)) (now (keys .entry))) place critical (now (cycles .entry)) (trialParts r (now (places .exit)) (now (keys .exit))) ⌝ }
-{
-    let totals = from.totals;
-    let count = totals.count;
-    let limit = from.limit;
-    let near = from.near;
-    let key = keys[place];
-    if key < limit {
-        return MidTrial {
-            totals,
-            limit: key,
-            near,
-        };
-    }
-    if key < NOT_PLANNED {
-        // The entries behind it have keys at or above the limit too: it goes among those before it, over itself.
-        let at = index_of(&places[..count], near, place as u64);
-        insert(&mut places[..], keys, at, place, limit);
-        return MidTrial {
-            totals,
-            limit,
-            near: at,
-        };
-    }
-    let lowered = lower(limit, critical);
-    insert(&mut places[..], keys, count, place, lowered);
-    MidTrial {
-        totals: with_entry(totals, cycles[place]),
-        limit: lowered,
-        near,
-    }
-}
-
-// Step 6, "Trial": the job at this place, which is not in the plan, and then along its chain to the far end.
-pub fn trial<'a>(
-    places: &mut [u64],
-    keys: &mut [u64; MOST_JOBS],
-    totals: Totals,
-    place: usize,
+    keys: &[u64; MOST_JOBS],
     waits: &'a [u64; MOST_JOBS],
     critical: &'a [u64; MOST_JOBS],
     cycles: &'a [u64; MOST_JOBS],
-) -> Totals
-    requires { ⌜ Triable (planParts totals (now places) (now keys)) place (now critical) (now cycles) ⌝ }
-    ensures { λ r. ⌜ Tried (planParts totals (now (places .entry)) (now (keys .entry))) place (now (waits .entry)) (now (critical .entry)) (now (cycles .entry)) (planParts r (now (places .exit)) (now (keys .exit))) ⌝ }
+) -> Walked
+    requires { ⌜ Walkable place (now keys) (now waits) (now critical) (now cycles) (now changed) (now fresh) ⌝ }
+    ensures { λ r. ⌜ WalkNoted place (now (keys .entry)) (now (waits .entry)) (now (critical .entry)) (now (cycles .entry)) (now (changed .exit)) (now (fresh .exit)) r ⌝ }
 {
-    let count = totals.count;
-    let limit = critical[place];
-    let own_cycles = cycles[place];
-    insert(&mut places[..], keys, count, place, limit);
-    let mut so_far = MidTrial {
-        totals: with_entry(totals, own_cycles),
-        limit,
-        near: 0,
-    };
+    let mut limit = critical[place];
+    changed[0] = place as u64;
+    fresh[0] = limit;
+    let mut changes = 1;
+    let mut moved = 0;
+    let mut added = cycles[place];
     let mut at = waits[place] as usize;
     let mut i = 0;
     while i < MOST_HOLDS {
         if MOST_JOBS <= at {
-            return so_far.totals;
+            let noted = Noted { changes, moved };
+            return Walked { noted, added };
         }
-        so_far = member(&mut places[..], keys, so_far, at, critical[at], cycles);
-        at = waits[at] as usize;
+        let member = at;
+        let key = keys[member];
+        at = waits[member] as usize;
+        i += 1;
+        if key < limit {
+            limit = key;
+            continue;
+        }
+        if key < NOT_PLANNED {
+            changed[changes] = member as u64;
+            fresh[changes] = limit;
+            changes += 1;
+            moved += 1;
+            continue;
+        }
+        limit = lower(limit, critical[member]);
+        changed[changes] = member as u64;
+        fresh[changes] = limit;
+        changes += 1;
+        added += cycles[member];
+    }
+    let noted = Noted { changes, moved };
+    Walked { noted, added }
+}
+
+// Where a trial begins to move something: behind the entries whose keys are below all changes', and behind the moved members that
+// stand there already, far end first, as they are to stand. These only get their new keys.
+fn left_untouched<'a>(
+    planned: &[u64],
+    keys: &[u64; MOST_JOBS],
+    changed: &'a [u64; MOST_CHANGES],
+    fresh: &'a [u64; MOST_CHANGES],
+    noted: Noted,
+) -> Untouched
+    requires { ⌜ Touchable (now planned) noted ⌝ }
+    ensures { λ r. ⌜ LeftUntouched (now (planned .entry)) (now (keys .entry)) (now (changed .entry)) (now (fresh .entry)) noted r ⌝ }
+{
+    let below = place_for(planned, keys, fresh[noted.changes - 1]);
+    let mut settled = 0;
+    while settled < noted.moved {
+        if planned.len() - below <= settled {
+            return Untouched { below, settled };
+        }
+        if planned[below + settled] != changed[noted.changes - 1 - settled] {
+            return Untouched { below, settled };
+        }
+        settled += 1;
+    }
+    Untouched { below, settled }
+}
+
+// Step 6, made: each change from the far end on, an insertion behind the one before it. How many entries there are then.
+fn accept<'a>(
+    places: &mut [u64],
+    keys: &mut [u64; MOST_JOBS],
+    changed: &'a [u64; MOST_CHANGES],
+    fresh: &'a [u64; MOST_CHANGES],
+    changes: usize,
+    from: usize,
+    count: usize,
+) -> usize
+    requires { ⌜ Acceptable count (now places) (now keys) (now changed) (now fresh) changes from ⌝ }
+    ensures { λ r. ⌜ Accepted count (now (places .entry)) (now (keys .entry)) (now (changed .entry)) (now (fresh .entry)) changes from (now (places .exit)) (now (keys .exit)) r ⌝ }
+{
+    let mut behind = from;
+    let mut entries = count;
+    let mut i = changes;
+    while 0 < i {
+        i -= 1;
+        let place = changed[i] as usize;
+        let key = fresh[i];
+        if keys[place] < NOT_PLANNED {
+            behind = move_up(&mut places[..], keys, behind, entries, place, key) + 1;
+            continue;
+        }
+        behind = insert(&mut places[..], keys, behind, entries, place, key) + 1;
+        entries += 1;
+    }
+    entries
+}
+
+// What is kept of the entries from an index on: the cycles run by their ends.
+fn renew_ends(planned: &[u64], ends: &mut [u64; MOST_JOBS], first: usize, cycles: &[u64; MOST_JOBS])
+    requires { ⌜ Renewable (now planned) (now ends) (now cycles) × (first ≤ length (now planned)) × EndsTrue first (now cycles) (now planned) (now ends) ⌝ }
+    ensures { λ _. ⌜ (length (now (ends .exit)) ≡ length (now (ends .entry))) × EndsTrue (length (now (planned .entry))) (now (cycles .entry)) (now (planned .entry)) (now (ends .exit)) ⌝ }
+{
+    let mut run = run_before(planned, ends, first);
+    let mut i = first;
+    while i < planned.len() {
+        let place = planned[i] as usize;
+        run += cycles[place];
+        ends[place] = run;
         i += 1;
     }
-    so_far.totals
 }
 
-// Step 7, the tests in their order: "the trial is dropped (fate 5). Else if .. exceed the budget, it is dropped (fate
-// 6)".
-fn fate_by(timely: bool, energy: u64, budget: u64) -> u64
-    ensures { λ r. ⌜ r ≡ cond (not timely) fateTime (cond (ltb budget energy) fateBudget fatePlanned) ⌝ }
+// A difference that stops at 0.
+fn less(one: u64, other: u64) -> u64
+    ensures { λ r. ⌜ r ≡ one - other ⌝ }
 {
-    if !timely {
-        return FATE_TIME;
+    if one < other {
+        return 0;
     }
-    if budget < energy {
-        return FATE_BUDGET;
-    }
-    FATE_PLANNED
+    one - other
 }
 
-// Step 7, "Accept or not": the fate of a trial that has the jobs at these places, and so many cycles in all.
-fn judge<'a>(
-    places: &[u64],
-    all_cycles: u64,
+// What is kept of the entries up to an index: their latest beginnings, from the back.
+fn renew_latests<'a>(
+    planned: &[u64],
+    latests: &mut [u64; MOST_JOBS],
+    upto: usize,
     cycles: &'a [u64; MOST_JOBS],
-    termination: &'a [u64; MOST_JOBS],
-    terms: Terms,
-) -> u64
-    requires { ⌜ Judgeable (now places) «all_cycles» (now cycles) (now termination) terms ⌝ }
-    ensures { λ r. ⌜ FateJudged (now (places .entry)) «all_cycles» (now (cycles .entry)) (now (termination .entry)) terms r ⌝ }
+    deadline: &'a [u64; MOST_JOBS],
+)
+    requires { ⌜ Renewable (now planned) (now latests) (now cycles) × (upto ≤ length (now planned)) × LatestsTrue upto (now cycles) (now deadline) (now planned) (now latests) ⌝ }
+    ensures { λ _. ⌜ (length (now (latests .exit)) ≡ length (now (latests .entry))) × LatestsTrue 0 (now (cycles .entry)) (now (deadline .entry)) (now (planned .entry)) (now (latests .exit)) ⌝ }
 {
-    let timely = in_time(places, cycles, termination, terms.clock, terms.mhz);
-    let energy = all_cycles * terms.cost;
-    fate_by(timely, energy, terms.budget)
+    let mut latest = latest_at(planned, latests, upto);
+    let mut i = upto;
+    while 0 < i {
+        i -= 1;
+        let place = planned[i] as usize;
+        latest = less(lower(deadline[place], latest), cycles[place]);
+        latests[place] = latest;
+    }
 }
 
 // Steps 5 to 7 for the job at this place: "A job already in the plan is passed over. Ratio 0 gives fate 4"; else its
-// trial is accepted, or dropped with fate 5 or 6. "A dropped trial leaves plan and keys as they stood": `kept` is room
-// for the plan's places while the trial is made. It is lent, whatever it holds, since an array here would be filled for
-// each turn.
+// trial is accepted, or dropped with fate 5 or 6. "A dropped trial leaves plan and keys as they stood": it touches nothing but
+// `changed` and `fresh`, which are lent, whatever they hold, since arrays here would be filled for each turn.
 pub fn turn<'a>(
     places: &mut [u64; MOST_JOBS],
     keys: &mut [u64; MOST_JOBS],
-    kept: &mut [u64; MOST_JOBS],
+    ends: &mut [u64; MOST_JOBS],
+    latests: &mut [u64; MOST_JOBS],
+    changed: &mut [u64; MOST_CHANGES],
+    fresh: &mut [u64; MOST_CHANGES],
     totals: Totals,
     job: JobInTurn,
     waits: &'a [u64; MOST_JOBS],
     critical: &'a [u64; MOST_JOBS],
     cycles: &'a [u64; MOST_JOBS],
-    termination: &'a [u64; MOST_JOBS],
+    deadline: &'a [u64; MOST_JOBS],
     terms: Terms,
 ) -> Turned
-    requires { ⌜ Turnable (planParts totals (now places) (now keys)) job (columnsRead (now waits) (now critical) (now cycles) (now termination)) terms ⌝ }
-    ensures { λ r. ⌜ TurnTaken (planParts totals (now (places .entry)) (now (keys .entry))) job (columnsRead (now (waits .entry)) (now (critical .entry)) (now (cycles .entry)) (now (termination .entry))) terms (planParts (r .totals) (now (places .exit)) (now (keys .exit))) (r .fate) ⌝ }
+    requires { ⌜ Turnable (planParts totals (now places) (now keys)) (keptOf (now ends) (now latests)) (now changed) (now fresh) job (columnsRead (now waits) (now critical) (now cycles) (now deadline)) terms ⌝ }
+    ensures { λ r. ⌜ TurnTaken (planParts totals (now (places .entry)) (now (keys .entry))) job (columnsRead (now (waits .entry)) (now (critical .entry)) (now (cycles .entry)) (now (deadline .entry))) terms (planParts (r .totals) (now (places .exit)) (now (keys .exit))) (keptOf (now (ends .exit)) (now (latests .exit))) (now (changed .exit)) (now (fresh .exit)) (r .fate) ⌝ }
 {
     let place = job.place;
     let count = totals.count;
@@ -209,28 +251,62 @@ pub fn turn<'a>(
         let fate = FATE_RATIO_ZERO;
         return Turned { totals, fate };
     }
-    copy_front(&mut kept[..], &places[..], count);
-    let keys_before = *keys;
-    let tried = trial(
-        &mut places[..],
+    let walked = walk(changed, fresh, place, keys, waits, critical, cycles);
+    let noted = walked.noted;
+    let all_cycles = totals.cycles + walked.added;
+    let before = &places[..];
+    let planned = &before[..count];
+    let untouched = left_untouched(planned, keys, changed, fresh, noted);
+    let settled = untouched.settled;
+    let rest = Noted {
+        changes: noted.changes - settled,
+        moved: noted.moved - settled,
+    };
+    let below = untouched.below;
+    let from = below + settled;
+    let judged = judge(
+        planned,
         keys,
-        totals,
-        place,
-        waits,
-        critical,
+        ends,
+        latests,
+        changed,
+        fresh,
+        rest,
+        from,
+        all_cycles,
         cycles,
+        deadline,
+        terms,
     );
-    let whole = &places[..];
-    let entries = tried.count;
-    let all_cycles = tried.cycles;
-    let fate = judge(&whole[..entries], all_cycles, cycles, termination, terms);
+    let fate = judged.fate;
     if fate != FATE_PLANNED {
-        copy_front(&mut places[..], &kept[..], count);
-        *keys = keys_before;
         return Turned { totals, fate };
     }
+    let entries = accept(
+        &mut places[..],
+        keys,
+        changed,
+        fresh,
+        noted.changes,
+        below,
+        count,
+    );
+    let after = &places[..];
+    let planned_now = &after[..entries];
+    renew_ends(planned_now, ends, from, cycles);
+    renew_latests(
+        planned_now,
+        latests,
+        judged.passed + entries - count,
+        cycles,
+        deadline,
+    );
+    let totals_now = Totals {
+        count: entries,
+        cycles: all_cycles,
+    };
     Turned {
-        totals: tried,
+        totals: totals_now,
         fate,
     }
 }

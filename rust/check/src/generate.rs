@@ -59,15 +59,19 @@ fn mixed(number: u64) -> u64 {
 
 // ---- Valid tables ----------------------------------------------------------------------------------------------------
 
-/// A valid table, 0 in every unused place.
+/// A valid table, 0 in every unused place. One in ten has long chains and few keys.
 pub fn table(seed: u64, index: u64) -> Table {
     let random = &mut Random::new(seed, index);
     let mut table = Table::EMPTY;
     table.clock = clock(random);
     make_speeds(random, &mut table);
-    make_jobs(random, &mut table);
-    make_times(random, &mut table);
-    make_waiting(random, &mut table);
+    if index % 10 == 7 {
+        make_long_chains(random, &mut table);
+    } else {
+        make_jobs(random, &mut table);
+        make_times(random, &mut table);
+        make_waiting(random, &mut table);
+    }
     table.budget = budget(random, &table);
     if random.chance(20) {
         make_second_chance(random, &mut table);
@@ -313,6 +317,35 @@ fn make_waiting(random: &mut Random, table: &mut Table) {
     if style > 0 && random.chance(50) {
         make_more_waiting(random, &mut waiting, &places);
     }
+    keep_waiting(&waiting, table);
+}
+
+/// More than 33 jobs with few critical times: a chain of 33 and others that wait for its members, so that trials move what
+/// stands side by side with one key, and put members before others that have it too.
+fn make_long_chains(random: &mut Random, table: &mut Table) {
+    table.job_count = random.within(HOLDS as u64 + 2, JOBS as u64) as usize;
+    let keys: Vec<u64> = (0..random.within(1, 4)).map(|_| table.clock + random.within(0, 5_000)).collect();
+    let spans = random.one_of(&[[0, 0, 1_000], [10, 100, 1_000], [1_000, 10_000, 100_000], [0, 5_000, LAST_TIME]]);
+    for place in 0..table.job_count {
+        let critical = random.one_of(&keys).min(LAST_TIME);
+        table.jobs[place] = Job {
+            number: 1 + place as u64,
+            cycles: random.within(1, 20),
+            worth: random.within(0, 50),
+            critical,
+            termination: (critical + random.one_of(&spans)).min(LAST_TIME),
+            request: 0,
+        };
+    }
+    let mut waiting = Waiting { requests: [0; JOBS], holders: [None; HOLDS + 1] };
+    let mut places: Vec<usize> = (0..table.job_count).collect();
+    random.shuffle(&mut places);
+    let (chain, others) = places.split_at(HOLDS + 1);
+    waiting.chain(random, chain);
+    others.iter().for_each(|place| {
+        let holder = random.one_of(chain);
+        waiting.wait(random, *place, holder);
+    });
     keep_waiting(&waiting, table);
 }
 

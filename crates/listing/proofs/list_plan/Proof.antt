@@ -60,7 +60,7 @@ all-places c = search needs
 
 -- what stood when the columns were known, and at the start
 abbrev columned : tie.After-decide → tie.After-columns-of
-columned c = c .before .before .before .before .before
+columned c = c .before .before .before .before .before .before .before .before .before .before .before .before
 
 abbrev begun : tie.After-decide → tie.Start
 begun c = columned c .before .before
@@ -135,7 +135,7 @@ slice-aggregate-decide-2 c = search needs
 
 decide-requires : tie.Need-decide-requires
 decide-requires c κs =
-    let columns-known = c .before .before .before .before in
+    let columns-known = c .before .before .before .before .before .before .before .before .before .before .before in
     let start = columns-known .before .before in
     let columns = columns-known .columns-of in (
       start .args .table .jobs,
@@ -163,7 +163,10 @@ order-rows-requires c κs =
     )
 
 fate-rows-requires : tie.Need-fate-rows-requires
-fate-rows-requires c κs = search needs
+fate-rows-requires c κs =
+    let listed = c .before .before .before .before in
+    let start = begun (listed .before .before .before .before .before .before .before .before .before .before) in
+    (start .pre .few-jobs, refl)
 
 array-share-prefix-orders : tie.Need-array-share-prefix-orders
 array-share-prefix-orders c = search needs

@@ -6,8 +6,9 @@ use Prim.Native.Nat.{_≤_}
 use native.Mathlib.Omega.{arith}
 use lib.ListN.{length, take}
 use Rattle.plans.proofs.Deciding.{same-terms, some-speed, table-concludable, table-runnable, terms-of-table}
-use Rattle.plans.specs.Promises.{DecidedAs, PlannableBy, assembled}
+use Rattle.plans.specs.Promises.{DecidedAs, PlannableBy, assembled, besides}
 use Rattle.columns.specs.Columns.{TermsOf}
+use Rattle.columns.specs.declared.Columns.{Columns}
 use Rattle.rules.specs.TableText.{mostHolds, mostSpeeds, recordsOf}
 use Rattle.rules.specs.declared.Job.{Job}
 use Rattle.rules.specs.declared.Table.{Table}
@@ -32,6 +33,11 @@ tableFor c jobs =
 abbrev table : tie.Start → Table
 table c = tableFor c (c .pre .0)
 
+abbrev columns : tie.Start → Columns
+columns c =
+    besides (c .args .number .now) (c .args .cycles .now) (c .args .worth .now) (c .args .critical .now) (c .args .termination .now)
+    (c .args .request .now)
+
 all-speeds : (c : tie.Start) → length (c .args .speeds) ≡ mostSpeeds
 all-speeds c = search needs
 
@@ -46,31 +52,31 @@ terms-of-requires c κs = let start = c .before .before in (speeds-there start, 
 
 -- the terms, and what stood before them
 abbrev begun : tie.After-course-of → tie.After-terms-of
-begun c = c .before .before .before .before .before .before .before .before .before .before
+begun c = c .before .before .before
 
 abbrev started : tie.After-course-of → tie.Start
 started c = begun c .before .before .before
 
 course-of-requires : tie.Need-course-of-requires
 course-of-requires c κs =
-    let terms = c .before .before .before .before .before .before .before .before .before in
+    let terms = c .before .before in
     let start = terms .before .before .before in
     rw (terms .terms-of .ensures)
-    (table-runnable (table start) (start .args .budget) (start .pre .1 .plannable) (all-speeds start) (start .args .t8)
-    (start .pre .1 .columns-of) (all-holds start))
+    (table-runnable (table start) (start .args .budget) (start .pre .1 .plannable) (all-speeds start) (columns start)
+    (start .pre .1 .columns-of) (all-holds start) (start .pre .1 .whole))
 
 conclude-requires : tie.Need-conclude-requires
 conclude-requires c κs =
-    let ran = c .before .before .before .before .before .before .before in
+    let ran = c .before .before .before .before in
     let start = started ran in
     rw (begun ran .terms-of .ensures)
-    (table-concludable (table start) (start .args .budget) (start .pre .1 .plannable) (all-speeds start) (start .args .t8)
+    (table-concludable (table start) (start .args .budget) (start .pre .1 .plannable) (all-speeds start) (columns start)
     (start .pre .1 .columns-of) (ran .course-of .result) (ran .course-of .ensures .0 .placed)
     (rw (begun ran .terms-of .ensures) at (ran .course-of .ensures .0 .totalled)))
 
 -- the course that the decision is made of
 abbrev course : tie.After-conclude → tie.After-course-of
-course c = c .before .before .before .before .before .before .before .before
+course c = c .before .before .before .before .before
 
 same-length : tie.Need-same-length
 same-length c = course c .course-of .ensures .1 .order-whole
@@ -79,7 +85,7 @@ same-length-2 : tie.Need-same-length-2
 same-length-2 c = course c .course-of .ensures .1 .rooms-whole
 
 -- of any table of these parts: its terms are those of the course
-terms-of-parts : (c : tie.After-course-of) (jobs : List Job) → PlannableBy (tableFor (started c) jobs) (started c .args .t8)
+terms-of-parts : (c : tie.After-course-of) (jobs : List Job) → PlannableBy (tableFor (started c) jobs) (columns (started c))
     → TermsOf (recordsOf (tableFor (started c) jobs)) (begun c .terms-of .result)
 unfolding recordsOf
 terms-of-parts c jobs by =
@@ -88,22 +94,22 @@ terms-of-parts c jobs by =
     (terms-of-table t (started c .args .budget) (by .plannable) (all-speeds (started c)) (by .whole))
 
 decided : (c : tie.After-conclude) (jobs : List Job)
-    → PlannableBy (tableFor (started (course c)) jobs) (started (course c) .args .t8)
+    → PlannableBy (tableFor (started (course c)) jobs) (columns (started (course c)))
     → DecidedAs (recordsOf (tableFor (started (course c)) jobs)) (c .conclude .result)
 unfolding recordsOf
 decided c jobs by =
     let ran = course c in
     let t = tableFor (started ran) jobs in
     let valid = by .plannable .valid in
-    let columns = by .columns-of in
+    let told = by .columns-of in
     let terms = terms-of-parts ran jobs by in
     c .conclude .ensures .decided (recordsOf t) valid
     (record {
       terms-of = terms;
-      runs-of = record { cycles-of = columns .cycles; termination-of = columns .termination };
+      runs-of = record { cycles-of = told .cycles; termination-of = told .termination };
       speeds-of = speeds-of t;
     })
-    (ran .course-of .ensures .0 .course (recordsOf t) valid terms (holds-of t) columns)
+    (ran .course-of .ensures .0 .course (recordsOf t) valid terms (holds-of t) told)
 
 returns : tie.Need-returns
 unfolding recordsOf

@@ -22,7 +22,7 @@ all-fates c = search needs
 
 -- what stood when the columns were known, and at the start
 abbrev columned : tie.After-decide → tie.After-columns-of
-columned c = c .before .before .before .before .before
+columned c = c .before .before .before .before .before .before .before .before .before .before .before .before
 
 abbrev started : tie.After-decide → tie.Start
 started c = columned c .before .before .before
@@ -61,7 +61,7 @@ slice-aggregate-decide-2 c = search needs
 
 decide-requires : tie.Need-decide-requires
 decide-requires c κs =
-    let columns-known = c .before .before .before .before in
+    let columns-known = c .before .before .before .before .before .before .before .before .before .before .before in
     let start = columns-known .before .before .before in
     let columns = columns-known .columns-of in (
       start .args .table .jobs,

@@ -39,7 +39,7 @@ all-jobs c = sym (length-map (c .args .table .jobs) _) ∙ c .good .0 .1 .1 .1 .
 
 -- what stood when the columns were known, and at the start
 abbrev columned : tie.After-decide → tie.After-columns-of
-columned c = c .before .before .before .before .before
+columned c = c .before .before .before .before .before .before .before .before .before .before .before .before
 
 abbrev started : tie.After-columns-of → tie.Start
 started c = c .before .before .before
@@ -50,10 +50,10 @@ records c = withBudget (recordsOf (c .args .table)) (c .args .budget)
 
 -- what is noted of its turns
 abbrev orderAfter : tie.After-decide → List ℕ
-orderAfter c = c .decide .last .1 .1 .1 .1 .1 .1 .1 .1 .0
+orderAfter c = c .decide .last .1 .1 .1 .1 .1 .1 .1 .1 .1 .1 .1 .1 .1 .0
 
 abbrev roomsAfter : tie.After-decide → List ℕ
-roomsAfter c = c .decide .last .1 .1 .1 .1 .1 .1 .1 .1 .1 .0
+roomsAfter c = c .decide .last .1 .1 .1 .1 .1 .1 .1 .1 .1 .1 .1 .1 .1 .1 .0
 
 parts : (c : tie.After-columns-of)
     → PlannableBy (tableWithBudget (started c .args .table) (started c .args .budget)) (c .columns-of .result)
@@ -100,7 +100,7 @@ slice-aggregate-decide c = search needs
 
 decide-requires : tie.Need-decide-requires
 decide-requires c κs =
-    let columns = c .before .before .before .before in (started columns .args .table .jobs, parts columns)
+    let columns = c .before .before .before .before .before .before .before .before .before .before .before in (started columns .args .table .jobs, parts columns)
 
 array-share-prefix-order : tie.Need-array-share-prefix-order
 array-share-prefix-order c =

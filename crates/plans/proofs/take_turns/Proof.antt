@@ -1,21 +1,23 @@
 -- `plans::take_turns` meets its contract: after each turn places, keys and fates stand for the rules' course of the turns
 -- taken, the record's total is true, and the turn is noted with the room by that total. The measure is how many turns are left.
 -- Assumes nothing.
-use mathlib.Core.List.{List}
+use mathlib.Core.List.{List, []}
 use mathlib.Core.Path.{_≡_, refl, sym, _∙_}
 use Prim.Native.Nat.{ℕ, _+_, _-_, _*_, _≤_, _<_}
 use native.Mathlib.Omega.{arith}
-use lib.ListN.{getD, getD-replicate, length, length-set, replicate, set}
+use lib.ListN.{getD, getD-replicate, length, length-set, replicate, set, take}
 use lib.Seq.{getD-take, length-take-le}
+use Rattle.entries.specs.Places.{notPlanned}
+use Rattle.judgements.specs.Changes.{mostChanges}
 use Rattle.laws.specs.Pairs.{no-pair}
 use Rattle.plans.proofs.Noting.{nothing-noted, one-more-noted}
-use Rattle.plans.proofs.Taking.{OnCourse, at-end, at-start, jobs-run, one-more-taken, room-by-record}
+use Rattle.plans.proofs.Taking.{OnCourse, at-end, at-start, jobs-run, one-more-taken, room-by-record, turn-of}
 use Rattle.plans.specs.Courses.{courseBy}
 use Rattle.plans.specs.Promises.{CourseBy, Totalled, TurnsNoted, TurnsOf}
 use Rattle.plans.specs.declared.CourseTaken.{CourseTaken}
 use Rattle.rules.specs.Lists.{Rising}
 use Rattle.rules.specs.TableText.{Records, mostJobs}
-use Rattle.trials.specs.Promises.{PlanStanding, TurnColumns, columnsRead, planParts, plannedPlaces, notPlanned}
+use Rattle.trials.specs.Promises.{KeptTrue, PlanStanding, TurnColumns, columnsRead, keptOf, planParts, plannedPlaces}
 use borrow.Author.Needs.{needs}
 use Rattle.plans.proofs.take_turns.Statement.{statement}
 use Rattle.plans.proofs.take_turns.Tie as tie
@@ -23,14 +25,25 @@ use Rattle.plans.proofs.take_turns.Tie as tie
 -- before the first turn nothing is planned
 nothing-standing : PlanStanding (planParts (record { count = 0; cycles = 0 }) (replicate mostJobs 0) (replicate mostJobs notPlanned))
 nothing-standing = record {
-  places-length = refl;
-  keys-length = refl;
-  few = omega arith;
+  entries-stand = record {
+    places-length = refl;
+    keys-length = refl;
+    few = omega arith;
+    below = λ i h. absurd (omega arith);
+    once = no-pair;
+    sorted = no-pair;
+    keys-tell = λ p h. rw (getD-replicate mostJobs p notPlanned 0 h);
+  };
   cycles-small = omega arith;
-  below = λ i h. absurd (omega arith);
-  once = no-pair;
-  sorted = no-pair;
-  keys-tell = λ p h. rw (getD-replicate mostJobs p notPlanned 0 h);
+}
+
+nothing-kept : (cycles deadline : List ℕ)
+    → KeptTrue cycles deadline [] (keptOf (replicate mostJobs 0) (replicate mostJobs 0))
+nothing-kept cycles deadline = record {
+  ends-length = refl;
+  latests-length = refl;
+  ends-true = λ i h. absurd (omega arith);
+  latests-true = λ i l h. absurd (omega arith);
 }
 
 -- after the last all are taken
@@ -40,17 +53,20 @@ all-taken : (t : Records) (order : List ℕ) (n i : ℕ) (keys : List ℕ) (r : 
 all-taken t order n i keys r e rising on = rw (sym e) (at-end t (courseBy t order i) r keys rising on)
 
 abbrev Inv-loop : tie.InvT-loop
-Inv-loop over waits critical cycles termination terms order₀ rooms₀ turns places₀ keys₀ kept₀ totals₀ fates₀ i₀ order rooms places keys kept totals fates i =
+Inv-loop over waits critical cycles deadline terms order₀ rooms₀ turns places₀ keys₀ ends₀ latests₀ changed₀ fresh₀ totals₀ fates₀ i₀ order rooms places keys ends latests changed fresh totals fates i =
     (i ≤ turns .count)
     × PlanStanding (planParts totals places keys)
     × (length fates ≡ mostJobs)
-    × ((t : Records) → TurnsOf t turns over (columnsRead waits critical cycles termination) fates₀ terms
+    × ((t : Records) → TurnsOf t turns over (columnsRead waits critical cycles deadline) fates₀ terms
     → OnCourse t (courseBy t (turns .order) i) (planParts totals places keys) fates)
     × Totalled totals places cycles terms
-    × TurnsNoted i turns over (columnsRead waits critical cycles termination) fates₀ terms order₀ rooms₀ order rooms
+    × (KeptTrue cycles deadline (take (totals .count) places) (keptOf ends latests)
+    × (length changed ≡ mostChanges)
+    × (length fresh ≡ mostChanges))
+    × TurnsNoted i turns over (columnsRead waits critical cycles deadline) fates₀ terms order₀ rooms₀ order rooms
 
 abbrev μ-loop : tie.MeasureT-loop
-μ-loop over waits critical cycles termination terms order₀ rooms₀ turns places₀ keys₀ kept₀ totals₀ fates₀ i₀ order rooms places keys kept totals fates i =
+μ-loop over waits critical cycles deadline terms order₀ rooms₀ turns places₀ keys₀ ends₀ latests₀ changed₀ fresh₀ totals₀ fates₀ i₀ order rooms places keys ends latests changed fresh totals fates i =
     turns .count - i
 
 all-places : (c : tie.Start Inv-loop μ-loop) → length (c .args .so-far) ≡ mostJobs
@@ -64,7 +80,7 @@ turns-there c = omega (arith, all-turns c, c .pre .few-turns)
 
 abbrev columns : tie.Start Inv-loop μ-loop → TurnColumns
 columns c =
-    columnsRead (c .args .waits .now) (c .args .critical .now) (c .args .cycles .now) (c .args .termination .now)
+    columnsRead (c .args .waits .now) (c .args .critical .now) (c .args .cycles .now) (c .args .deadline .now)
 
 -- the function's start, seen from inside the loop
 abbrev started : tie.In-loop Inv-loop μ-loop → tie.Start Inv-loop μ-loop
@@ -92,6 +108,7 @@ loop-holds c =
       all-places start,
       λ t of. at-start t (args .t1) (args .over .now) (columns start) (args .so-far) (args .terms) of _ _,
       record { total-true = refl; within = omega arith },
+      (nothing-kept (args .cycles .now) (args .deadline .now), refl, refl),
       nothing-noted (args .t1) (args .over .now) (columns start) (args .so-far) (args .terms) (args .order .now) (args .rooms .now),
     )
 
@@ -109,19 +126,29 @@ element-copy-out-note-turn c = place-below (c .before)
 
 turn-requires : tie.Need-turn-requires Inv-loop μ-loop
 turn-requires c κs =
-    let inside = c .before .before .before .before .before in
+    let inside = c .before .before .before .before .before .before .before .before in
     let pre = started inside .pre in
+    let args = started inside .args in
+    let loop = inside .before .loop in
     record {
       standing = inside .before .loop .inv .1;
       total-true = inside .before .loop .inv .4 .total-true;
+      kept-true = inside .before .loop .inv .5 .0;
+      changed-length = inside .before .loop .inv .5 .1;
+      fresh-length = inside .before .loop .inv .5 .2;
       place-below = place-below inside;
       columns-small = pre .columns-small;
       terms-small = pre .terms-small;
+      table = pre .table;
+      of-table =
+          turn-of (pre .table) (args .t1) (args .over .now) (columns (started inside)) (args .so-far) (args .terms) (pre .of-table)
+          (loop .i) (turns-there (started inside)) (inside .loop-test .taken) (planParts (loop .totals) (loop .places) (loop .keys))
+          (loop .fates) (loop .inv .3 (pre .table) (pre .of-table));
     }
 
 -- inside the loop, seen from where the turn is taken
 abbrev in-turn : tie.After-totals Inv-loop μ-loop → tie.In-loop Inv-loop μ-loop
-in-turn c = c .before .before .before .before .before .before .before
+in-turn c = c .before .before .before .before .before .before .before .before .before .before
 
 mul-fates : tie.Need-mul-fates Inv-loop μ-loop
 mul-fates c = omega (arith, place-below (in-turn c))
@@ -158,26 +185,27 @@ loop-again c =
     → OnCourse t (courseBy t (args .t1 .order) (loop .i + 1)) plan (set (loop .fates) place (turned .result .fate)) = λ t of.
     one-more-taken t (args .t1) (args .over .now) (columns start) (args .so-far) (args .terms) of (loop .i) (turns-there start)
     (inside .loop-test .taken) (planParts (loop .totals) (loop .places) (loop .keys)) (loop .fates) (loop .inv .3 t of) plan
-    (turned .result .fate) (omega (arith, loop .inv .2, place-below inside)) (turned .ensures) in (
+    _ _ _ (turned .result .fate) (omega (arith, loop .inv .2, place-below inside)) (turned .ensures) in (
       omega (arith, inside .loop-test .taken),
       turned .ensures .standing,
       length-set (loop .fates) place (turned .result .fate) ∙ loop .inv .2,
       next,
       record { total-true = turned .ensures .total-true; within = within-after taken },
+      (turned .ensures .kept-true, turned .ensures .changed-length, turned .ensures .fresh-length),
       one-more-noted (args .t1) (args .over .now) (columns start) (args .so-far) (args .terms) (loop .i) (args .order .now)
-          (args .rooms .now) (loop .order) (loop .rooms) (loop .inv .5) _
+          (args .rooms .now) (loop .order) (loop .rooms) (loop .inv .6) _
           (λ t of.
           room-by-record t (courseBy t (args .t1 .order) (loop .i + 1)) (plannedPlaces plan) (args .cycles .now)
-          (plan .totals .cycles) (args .terms) (of .terms-of) (of .columns-of .runs-of .cycles-of)
+          (plan .totals .cycles) (args .terms) (of .terms-of) (of .columns-of .cycles-of)
           (jobs-run t (courseBy t (args .t1 .order) (loop .i + 1)) plan (next t of .plan)) (turned .ensures .total-true))
           _ _ (noted .note-turn .ensures),
     )
 
 same-length : tie.Need-same-length Inv-loop μ-loop
-same-length c = c .before .loop .inv .5 .order-whole
+same-length c = c .before .loop .inv .6 .order-whole
 
 same-length-2 : tie.Need-same-length-2 Inv-loop μ-loop
-same-length-2 c = c .before .loop .inv .5 .rooms-whole
+same-length-2 c = c .before .loop .inv .6 .rooms-whole
 
 returns : tie.Need-returns Inv-loop μ-loop
 returns c =
@@ -185,14 +213,14 @@ returns c =
     let args = c .before .before .before .before .args in
     let all : loop .i ≡ args .t1 .count = omega (arith, c .loop-test .left, loop .inv .0) in (
       record {
-        placed = record { few = loop .inv .1 .few; below = loop .inv .1 .below };
+        placed = record { few = loop .inv .1 .entries-stand .few; below = loop .inv .1 .entries-stand .below };
         totalled = loop .inv .4;
         turns-counted = refl;
         course = λ t of.
             all-taken t (args .t1 .order) (args .t1 .count) (loop .i) (loop .keys) _ all (of .valid .jobs-rise)
             (loop .inv .3 t of);
       },
-      rw all at (loop .inv .5),
+      rw all at (loop .inv .6),
     )
 
 pub take-turns-spec : {M : Type 1} → statement M

@@ -1,13 +1,14 @@
 -- `remaining::ring_fate` meets its contract: a job that was taken out keeps its fate, and of the others one that leaves its
--- ring has fate 3 and one that does not has 0. Assumes nothing.
+-- ring has fate 3 and one that does not has 0, as has one for which nobody waits. Assumes nothing.
 use mathlib.Core.Bool.{Bool, true, false, cond}
-use mathlib.Core.Path.{_≡_, sym, _∙_}
+use mathlib.Core.Path.{_≡_, refl, sym, _∙_}
 use Prim.Native.Nat.{ℕ}
 use native.Mathlib.Omega.{arith}
 use borrow.Author.Needs.{needs}
 use borrow.Author.Tests.{eq-eqb, ne-eqb}
 use lib.Dec.{eqb}
 use lib.ListN.{getD}
+use Rattle.remaining.proofs.Unawaited.{leaves-no-ring}
 use Rattle.remaining.proofs.ring_fate.Statement.{statement}
 use Rattle.remaining.proofs.ring_fate.Tie as tie
 use Rattle.rules.specs.Plan.{awaited, fateDeadlock, leavesRing}
@@ -30,30 +31,40 @@ remaining-has-fate-0 late leaves answer h e l = rw (eq-eqb late 0 h) (rw (sym e 
 
 returns : tie.Need-returns
 returns c = record {
-  fate = λ t js next rising waits l number-of worth-of cycles-of.
+  fate = λ t js next unawaited rising waits l number-of worth-of cycles-of.
       let args = c .before .args in
       let j = getD js (args .place) noJob in
       taken-out-keeps-its-fate (args .late) (leavesRing t (awaited next j) j) (λ e. omega (arith, c .if1 .taken));
 }
 
+returns-2 : tie.Need-returns-2
+returns-2 c = record {
+  fate = λ t js next unawaited rising waits l number-of worth-of cycles-of.
+      let args = c .before .before .args in
+      remaining-has-fate-0 (args .late) _ false (omega (arith, c .before .if1 .left))
+      (sym (leaves-no-ring js next (args .waits .now) rising waits (args .place) l (unawaited (c .if2 .taken)) t)) refl;
+}
+
 leaves-ring-requires : tie.Need-leaves-ring-requires
 leaves-ring-requires c κs = search needs
 
-returns-2 : tie.Need-returns-2
-returns-2 c = record {
-  fate = λ t js next rising waits l number-of worth-of cycles-of.
-      leaving-has-fate-3 (c .before .before .before .args .late) _ _ (omega (arith, c .before .before .if1 .left))
-      (c .before .leaves-ring .ensures .leaves t js next rising waits l number-of worth-of cycles-of)
-      (c .if2 .taken);
-}
-
 returns-3 : tie.Need-returns-3
 returns-3 c = record {
-  fate = λ t js next rising waits l number-of worth-of cycles-of.
-      remaining-has-fate-0 (c .before .before .before .args .late) _ _ (omega (arith, c .before .before .if1 .left))
+  fate = λ t js next unawaited rising waits l number-of worth-of cycles-of.
+      let start = c .before .before .before .before in
+      leaving-has-fate-3 (start .args .late) _ _ (omega (arith, c .before .before .before .if1 .left))
       (c .before .leaves-ring .ensures .leaves t js next rising waits l number-of worth-of cycles-of)
-      (c .if2 .left);
+      (c .if3 .taken);
+}
+
+returns-4 : tie.Need-returns-4
+returns-4 c = record {
+  fate = λ t js next unawaited rising waits l number-of worth-of cycles-of.
+      let start = c .before .before .before .before in
+      remaining-has-fate-0 (start .args .late) _ _ (omega (arith, c .before .before .before .if1 .left))
+      (c .before .leaves-ring .ensures .leaves t js next rising waits l number-of worth-of cycles-of)
+      (c .if3 .left);
 }
 
 pub ring-fate-spec : {M : Type 1} → statement M
-ring-fate-spec = tie.close (tie.spec returns leaves-ring-requires returns-2 returns-3)
+ring-fate-spec = tie.close (tie.spec returns returns-2 leaves-ring-requires returns-3 returns-4)

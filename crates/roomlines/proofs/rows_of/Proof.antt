@@ -69,7 +69,7 @@ course-of-requires c κs =
     let start = started columns in
     rw (terms .terms-of .ensures)
     (table-runnable (start .args .table) (start .args .budget) (start .pre .0) (all-speeds start) (columns .columns-of .result)
-    (columns .columns-of .ensures) (all-holds start))
+    (columns .columns-of .ensures) (all-holds start) (all-jobs start))
 
 -- what is noted of the course
 abbrev orderAfter : tie.After-course-of → List ℕ

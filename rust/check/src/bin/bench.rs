@@ -1,11 +1,11 @@
-//! What a call costs, the library beside the reference, for 8, 16, 32 and 64 jobs of four families: to read a text; to
+//! What a call costs, the library beside the reference, for 8, 16, 32 and 64 jobs of five families: to read a text; to
 //! plan a table that has been read, with a budget beside it; to tell its rooms; and to read and plan, as for the first
 //! plan of a text. It calls the library linked: with the feature `native`, which off x86-64 needs `tools/native`.
 //!
 //! Usage: bench                              nanoseconds
 //!        bench instructions                 instructions, counted by valgrind
 //!        bench WHO CALL TIMES FAMILY JOBS   so many calls, to be counted or watched from outside: WHO is library or
-//!                                           reference, CALL is read, plan, rooms or "read + plan", FAMILY is 0 to 3
+//!                                           reference, CALL is read, plan, rooms or "read + plan", FAMILY is 0 to 4
 
 #![forbid(unsafe_code)]
 
@@ -22,8 +22,15 @@ use cuddlelamb_check::reference::{
 
 const SIZES: [usize; 4] = [8, 16, 32, 64];
 const CALLS: [&str; 4] = ["read", "plan", "rooms", "read + plan"];
-const FAMILIES: [&str; 4] =
-    ["nothing waits", "ten times overloaded", "long chains, all accepted", "long chains, ten times overloaded"];
+const FAMILIES: [&str; 5] = [
+    "nothing waits",
+    "ten times overloaded",
+    "long chains, all accepted",
+    "long chains, ten times overloaded",
+    "random tables",
+];
+/// How many tables the last family has of each size: a call is one call for each, shared out.
+const RANDOM_TABLES: usize = 32;
 
 fn main() {
     let arguments: Vec<String> = std::env::args().skip(1).collect();
@@ -40,9 +47,9 @@ fn main() {
         }
         [who, call, times, family, jobs] => {
             let family = FAMILIES[family.parse::<usize>().expect("a family's number")];
-            let input = Input::new(family, jobs.parse().expect("how many jobs"));
+            let inputs = inputs(family, jobs.parse().expect("how many jobs"));
             let one = call_of(who, call);
-            (0..times.parse().expect("how many times")).for_each(|_| one(&input));
+            (0..times.parse().expect("how many times")).for_each(|_| inputs.iter().for_each(one));
         }
         _ => panic!("usage: bench | bench instructions | bench WHO CALL TIMES FAMILY JOBS"),
     }
@@ -55,11 +62,20 @@ struct Input {
     reference: Table,
 }
 
-impl Input {
-    fn new(name: &str, jobs: usize) -> Input {
-        let table = family(name, jobs);
-        Input { text: generate::text_of(&table), library: wrappers_table(&table), reference: table }
+/// A family's inputs of a size: one, or of random tables the first of the generator that have so many jobs.
+fn inputs(name: &str, jobs: usize) -> Vec<Input> {
+    tables(name, jobs)
+        .into_iter()
+        .map(|table| Input { text: generate::text_of(&table), library: wrappers_table(&table), reference: table })
+        .collect()
+}
+
+fn tables(name: &str, jobs: usize) -> Vec<Table> {
+    if name == "random tables" {
+        let generated = (0..).map(|index| generate::table(20_261_116, index));
+        return generated.filter(|table| table.job_count == jobs).take(RANDOM_TABLES).collect();
     }
+    vec![family(name, jobs)]
 }
 
 /// A call to be measured. The budget beside a table is the one that its text says: the plan is the same with and without
@@ -155,10 +171,13 @@ fn make_chains(table: &mut Table) {
     }
 }
 
-/// How many jobs of a family's table are planned.
+/// How many jobs of a family's tables are planned, on average.
 fn planned(name: &str, jobs: usize) -> usize {
-    let table = family(name, jobs);
-    reference::plan(&table, table.budget, &mut [0; JOBS], &mut [0; JOBS]).expect("a good table").count
+    let tables = tables(name, jobs);
+    let of = |table: &Table| {
+        reference::plan(table, table.budget, &mut [0; JOBS], &mut [0; JOBS]).expect("a good table").count
+    };
+    tables.iter().map(of).sum::<usize>() / tables.len()
 }
 
 // ---- What is measured and printed ------------------------------------------------------------------------------------
@@ -191,11 +210,11 @@ fn print_rows(unit: &str, measure: impl Fn(usize, &str, usize) -> Costs) {
 
 /// Library and reference in turns, each the least of seven measures of as many calls as take some milliseconds.
 fn nanoseconds(family: usize, call: &str, jobs: usize) -> Costs {
-    let input = Input::new(FAMILIES[family], jobs);
+    let inputs = inputs(FAMILIES[family], jobs);
     let (library, reference) = (call_of("library", call), call_of("reference", call));
     let timed = |one: Call, times: u32| {
         let start = Instant::now();
-        (0..times).for_each(|_| one(&input));
+        (0..times).for_each(|_| inputs.iter().for_each(one));
         start.elapsed()
     };
     let mut times = 1;
@@ -207,11 +226,13 @@ fn nanoseconds(family: usize, call: &str, jobs: usize) -> Costs {
         least = least.min(timed(library, times));
         other_least = other_least.min(timed(reference, times));
     }
-    (least.as_nanos() as f64 / f64::from(times), other_least.as_nanos() as f64 / f64::from(times))
+    let calls = f64::from(times) * inputs.len() as f64;
+    (least.as_nanos() as f64 / calls, other_least.as_nanos() as f64 / calls)
 }
 
 fn instructions(family: usize, call: &str, jobs: usize) -> Costs {
-    let of = |who| counted(who, call, 2, family, jobs) - counted(who, call, 1, family, jobs);
+    let tables = inputs(FAMILIES[family], jobs).len() as f64;
+    let of = |who| (counted(who, call, 2, family, jobs) - counted(who, call, 1, family, jobs)) / tables;
     (of("library"), of("reference"))
 }
 

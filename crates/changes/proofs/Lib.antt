@@ -1,0 +1,5 @@
+pub mod Merging
+pub mod Walk
+pub mod Trials
+pub mod Cycles
+pub mod OfTurns

@@ -1,0 +1,5 @@
+mod Bounds
+mod Going
+mod Running
+mod Onwards
+mod Judging
