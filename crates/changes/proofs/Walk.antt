@@ -3,14 +3,14 @@
 use mathlib.Core.Bool.{true, false}
 use mathlib.Core.List.{List, [], _∷_, _++_}
 use mathlib.Core.Option.{Option, none, some}
-use mathlib.Core.Path.{_≡_, refl, sym, ap, _∙_}
+use mathlib.Core.Path.{_≡_, refl, sym, _∙_}
 use Prim.Native.Nat.{ℕ, min, _≤_, _<_}
 use native.Mathlib.Omega.{arith}
 use borrow.Author.Tests.{le-ltb, lt-ltb, ltb-false, ltb-true}
 use lib.Dec.{ltb}
 use Rattle.laws.proofs.Choices.{clash, nothing-there, one-there, split}
 use Rattle.laws.proofs.Elements.{each-append, each-too}
-use Rattle.laws.proofs.Lookups.{each-both, each-first, each-rest, find-agree}
+use Rattle.laws.proofs.Lookups.{each-both, each-first, each-rest}
 use Rattle.laws.specs.Pairs.{Pairwise, no-pair, _then_}
 use Rattle.laws.proofs.Pairs.{pairs-both}
 use Rattle.changes.specs.Changes.{changeOf, changesAlong, changesOf, keyIn, keyOf, limitBehind}
@@ -19,7 +19,7 @@ use Rattle.rules.specs.Lists.{Each, none-left, _and_}
 use Rattle.rules.specs.Plan.{Entry, Turn, inPlan, isOf, same}
 use Rattle.rules.specs.declared.Job.{Job}
 use Rattle.steps.proofs.Entries.{entry, not-planned, out-of-plan}
-use Rattle.steps.proofs.Jobs.{same-as, same-self, same-swap}
+use Rattle.steps.proofs.Jobs.{same-self, same-swap}
 
 module _ (key : Job → Option ℕ) (limit : ℕ) where
   -- No member left: no change.
@@ -126,11 +126,6 @@ changes-never-rise i p =
 pub changes-fall : (i : Turn) (p : List Entry) → Apart (i .job ∷ i .awaited) → Pairwise Falls (changesOf i p)
 changes-fall i p a =
     pairs-both (λ c d n l. record { apart = n; no-greater = l }) (changes-in-pairs i p a) (changes-never-rise i p)
-
--- A job's key is that of its number.
-pub key-as : (p : List Entry) (x y : Job) → same x y ≡ true → keyIn p x ≡ keyIn p y
-unfolding keyIn isOf
-key-as p x y h = ap keyOf (find-agree (isOf x) (isOf y) p (λ e. same-as x y (e .job) h))
 
 -- A job whose entry stands first has its key.
 pub key-here : (x : Job) (e : Entry) (es : List Entry) → same x (e .job) ≡ true → keyIn (e ∷ es) x ≡ some (e .key)

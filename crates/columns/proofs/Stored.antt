@@ -16,7 +16,8 @@ pub record Filled (f : Job → ℕ) (js : List Job) (c : List ℕ) : Type 0 wher
   pub column : Column f js c
   pub whole : length c ≡ mostJobs
 
-zeros-at : (n i : ℕ) → _≡_ {A = ℕ} (getD (replicate n 0) i 0) 0
+-- a column of zeros holds 0 everywhere
+pub zeros-at : (n i : ℕ) → _≡_ {A = ℕ} (getD (replicate n 0) i 0) 0
 zeros-at zero i = refl
 zeros-at (suc n) zero = refl
 zeros-at (suc n) (suc i) = zeros-at n i

@@ -6,7 +6,7 @@ use mathlib.Core.Path.{_≡_, refl}
 use Prim.Native.Nat.{ℕ, _+_, _*_, _≤_, _<_}
 use borrow.Author.Tests.{le-leb, lt-leb}
 use Rattle.rules.specs.Lists.{all}
-use Rattle.rules.specs.Plan.{cyclesOf, endsBy, endsInTime, inTime, runsFrom, runsOf}
+use Rattle.rules.specs.Plan.{endsBy, endsInTime, inTime, runsFrom, runsOf}
 use Rattle.rules.specs.declared.Job.{Job}
 
 -- each job, run in order behind so many cycles, ends at or before its termination
@@ -37,11 +37,3 @@ module _ (clock mhz : ℕ) where
         → inTimeBehind clock mhz cycles (j ∷ js) ≡ false
     unfolding runsFrom endsInTime endsBy
     first-late l = rw (lt-leb (clock * mhz + (cycles + j .cycles) * 1000) (j .termination * mhz) l)
-
-pub no-job-no-cycles : cyclesOf [] ≡ 0
-unfolding cyclesOf
-no-job-no-cycles = refl
-
-pub cycles-of-first-and-others : (j : Job) (js : List Job) → cyclesOf (j ∷ js) ≡ j .cycles + cyclesOf js
-unfolding cyclesOf
-cycles-of-first-and-others j js = refl

@@ -6,23 +6,18 @@ use Prim.Native.Nat.{ℕ, zero, suc, _+_, _*_, _-_, _≤_, _<_}
 use native.Mathlib.Nat.{mul-le-mul, zero-mul}
 use native.Mathlib.Omega.{arith}
 use borrow.Author.Needs.{needs}
-use lib.ListN.{getD, length, length-set, replicate, set, take}
+use lib.ListN.{getD, length, length-set, set, take}
 use lib.Seq.{take-all}
 use Rattle.chains.proofs.deadlines.Statement.{statement}
 use Rattle.chains.proofs.deadlines.Tie as tie
 use Rattle.chains.specs.Promises.{mostDeadline}
-use Rattle.columns.proofs.Stored.{Filled, nothing-filled, one-more-filled}
+use Rattle.columns.proofs.Stored.{Filled, nothing-filled, one-more-filled, zeros-at}
 use Rattle.columns.specs.Columns.{AtMost, Column, TermsOf}
 use Rattle.columns.specs.declared.Terms.{Terms}
 use Rattle.rules.specs.Plan.{topOf}
 use Rattle.rules.specs.TableText.{Records, mostJobs, mostMhz, mostTime, noJob}
 use Rattle.rules.specs.declared.Job.{Job}
 use Rattle.steps.specs.Deadlines.{cyclesBy, deadlineOf}
-
-zeros-at-most : (b n : ℕ) → AtMost b (replicate n 0)
-zeros-at-most b zero i = omega arith
-zeros-at-most b (suc n) zero = omega arith
-zeros-at-most b (suc n) (suc i) = zeros-at-most b n i
 
 stored-at-most : (b : ℕ) (column : List ℕ) (i value : ℕ) → AtMost b column → value ≤ b → AtMost b (set column i value)
 stored-at-most b [] i value all h k = omega arith
@@ -75,7 +70,7 @@ loop-holds : tie.Need-loop-holds Inv-loop μ-loop
 loop-holds c =
     rw (c .pre .0) (
       refl,
-      zeros-at-most mostDeadline mostJobs,
+      λ i. omega (arith, zeros-at mostJobs i),
       λ t terms-of termination-of. nothing-filled (deadlineIn t) (nobody's-deadline (t .clock) (topOf t .mhz)),
     )
 
