@@ -14,6 +14,7 @@ ghost use lib.Dec.{eqb};
 ghost use lib.ListN.{replicate};
 ghost use Rattle.chains.specs.Promises.{Comparable, Deadlines, Holdable, Holders};
 ghost use Rattle.chains.specs.Promises.{LeavesRing, PlaceOf, Rather, WaitsFor, Weighable};
+ghost use Rattle.chains.specs.Waits.{mostResources};
 ghost use Rattle.columns.specs.Columns.{AtMost};
 ghost use Rattle.columns.specs.Ranges.{TermsInRange};
 ghost use Rattle.rules.specs.Plan.{endsBy};
@@ -46,18 +47,18 @@ fn place_of(numbers: &[u64; MOST_JOBS], count: usize, number: u64) -> u64
     place as u64
 }
 
-// Step 2, "holds the resource": at each resource the place of the job that its H line names. The H lines are gone through
-// from the last to the first.
+// Step 2, "holds the resource": at each resource the place of the job that its H line names, put into a lent column that holds
+// nobody. The H lines are gone through from the last to the first.
 pub fn holders(
+    holder_at: &mut [u64; RESOURCES],
     holds: [Hold; MOST_HOLDS],
     hold_count: usize,
     numbers: &[u64; MOST_JOBS],
     job_count: usize,
-) -> [u64; RESOURCES]
-    requires { ⌜ Holdable holds «hold_count» «job_count» ⌝ }
-    ensures { λ r. ⌜ Holders holds (now (numbers .entry)) «hold_count» «job_count» r ⌝ }
+)
+    requires { ⌜ (now «holder_at» ≡ replicate mostResources mostJobs) × Holdable holds «hold_count» «job_count» ⌝ }
+    ensures { λ _. ⌜ Holders holds (now (numbers .entry)) «hold_count» «job_count» (now («holder_at» .exit)) ⌝ }
 {
-    let mut holder_at = [NOBODY; RESOURCES];
     let mut i = hold_count;
     while 0 < i {
         i -= 1;
@@ -66,14 +67,13 @@ pub fn holders(
         let place = place_of(numbers, job_count, hold.holder);
         holder_at[resource] = place;
     }
-    holder_at
 }
 
 // Step 2, "A job waits for the remaining job that holds the resource it requests": its place, where its fate is 0 yet.
 pub fn waits_for<'a>(
     requests: &'a [u64; MOST_JOBS],
     holder_at: &'a [u64; RESOURCES],
-    fates: &'a [u64; MOST_JOBS],
+    fates: &[u64; MOST_JOBS],
     place: usize,
 ) -> u64
     requires { ⌜ (place < mostJobs) × AtMost mostHolds (now requests) ⌝ }

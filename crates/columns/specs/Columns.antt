@@ -14,6 +14,17 @@ use Rattle.rules.specs.declared.Job.{Job}
 abbrev pub Column : (Job → ℕ) → List Job → List ℕ → Type 0
 Column f js c = (i : ℕ) → getD c i 0 ≡ f (getD js i noJob)
 
+-- the columns side by side
+abbrev pub besides : List ℕ → List ℕ → List ℕ → List ℕ → List ℕ → List ℕ → Columns
+besides number cycles worth critical termination request = record {
+  number = number;
+  cycles = cycles;
+  worth = worth;
+  critical = critical;
+  termination = termination;
+  request = request;
+}
+
 -- a column for each field of the jobs
 pub record ColumnsOf (js : List Job) (c : Columns) : Type 0 where
   pub number : Column (λ j. j .number) js (c .number)

@@ -5,6 +5,7 @@ use reader::read;
 use records::budget_in_range;
 use rules::FATE_PLANNED;
 use rules::MOST_JOBS;
+use rules::NO_FATE;
 use rules::Refusal;
 use rules::Table;
 use rules::Verdict;
@@ -173,7 +174,11 @@ fn list_plan(table: Table, budget: u64, out: &mut [u8]) -> Written
     let holds = table.holds;
     let mut no_order = [0; 0];
     let mut no_rooms = [0; 0];
+    let mut places = [0; MOST_JOBS];
+    let mut fates = [NO_FATE; MOST_JOBS];
     let decided = decide(
+        &mut places,
+        &mut fates,
         table.clock,
         budget,
         speeds,
@@ -190,8 +195,6 @@ fn list_plan(table: Table, budget: u64, out: &mut [u8]) -> Written
         &mut no_order,
         &mut no_rooms,
     );
-    let places = decided.places;
-    let fates = decided.fates;
     let count = decided.count;
     let mhz = decided.speed.mhz;
     let mut orders = [0; MOST_ROW_NUMBERS];

@@ -10,10 +10,8 @@ use Rattle.columns.specs.Columns.{jobsAt}
 use Rattle.columns.specs.declared.Terms.{Terms}
 use Rattle.entries.proofs.Sums.{cycles-of-jobs}
 use Rattle.plans.proofs.Courses.{fates-at-end}
-use Rattle.plans.specs.Courses.{jobAt}
-use Rattle.plans.specs.Promises.{Concluded, Marked, PlacesOfJobs, Totalled}
-use Rattle.plans.specs.declared.CourseTaken.{CourseTaken}
-use Rattle.plans.specs.declared.Decided.{Decided}
+use Rattle.plans.specs.Courses.{CourseLeft, DecisionLeft, jobAt}
+use Rattle.plans.specs.Promises.{Concluded, Marked, PlacesOfJobs, Totalled, Whole}
 use Rattle.rules.specs.Plan.{courseOf, cyclesOf, energyAt, fatePlanned, inPlan, planFrom, planOf, speedFor, runOrder}
 use Rattle.rules.specs.TableText.{Records}
 use Rattle.rules.specs.declared.Job.{Job}
@@ -35,12 +33,12 @@ energy-planned : (t : Records) (js : List Job) (f : Speed) → js ≡ planOf t .
 unfolding planOf planFrom
 energy-planned t js f e g = rw (e, g)
 
-module _ (speeds : List Speed) (speed-count : ℕ) (cycles termination : List ℕ) (course : CourseTaken) (terms : Terms)
+module _ (speeds : List Speed) (speed-count : ℕ) (cycles termination : List ℕ) (course : CourseLeft) (terms : Terms)
     (chosen : Chosen) (fates : List ℕ) where
   abbrev planned : List ℕ
   planned = take (course .totals .count) (course .places)
 
-  abbrev told : Decided
+  abbrev told : DecisionLeft
   told = record {
     places = course .places;
     count = course .totals .count;
@@ -51,11 +49,12 @@ module _ (speeds : List Speed) (speed-count : ℕ) (cycles termination : List �
     cycles = course .totals .cycles;
   }
 
-  pub steps-8-and-9 : PlacesOfJobs (course .totals .count) (course .places)
+  pub steps-8-and-9 : Whole (course .places) (course .fates) → PlacesOfJobs (course .totals .count) (course .places)
       → Totalled (course .totals) (course .places) cycles terms
       → ChosenSpeed speeds speed-count planned cycles termination terms chosen
       → Marked planned (course .fates) fates → Concluded speeds speed-count cycles termination course terms told
-  steps-8-and-9 placed totalled by-rule marked = record {
+  steps-8-and-9 whole placed totalled by-rule marked = record {
+    whole = record { places-whole = whole .places-whole; fates-whole = marked .whole };
     decided = λ t valid of by.
         let jobs : jobsAt (t .jobs) planned ≡ planOf t .jobs = by .jobs ∙ sym (jobs-planned t) in
         let found : chosen .speed ≡ planOf t .speed =

@@ -13,9 +13,8 @@ use Rattle.columns.specs.declared.Columns.{Columns}
 use Rattle.columns.specs.declared.Terms.{Terms}
 use Rattle.laws.proofs.Elements.{each-at-place}
 use Rattle.grammar.proofs.Ranges.{SpeedRanges, clock-ranges, hold-ranges, speed-ranges}
-use Rattle.plans.specs.Promises.{Concludable, CourseRunnable, DecidedAs, PlacesOfJobs, Plannable, PlannableBy, RoomsNoted, Totalled}
-use Rattle.plans.specs.declared.CourseTaken.{CourseTaken}
-use Rattle.plans.specs.declared.Decided.{Decided}
+use Rattle.plans.specs.Courses.{CourseLeft, DecisionLeft}
+use Rattle.plans.specs.Promises.{Concludable, CourseRunnable, DecidedAs, PlacesOfJobs, Plannable, PlannableBy, RoomsNoted, Totalled, Whole}
 use Rattle.rules.specs.Lists.{Each, lastOr}
 use Rattle.rules.specs.Plan.{topOf}
 use Rattle.rules.specs.TableText.{Record, Records, inRange, mostHolds, mostJobs, mostSpeeds, noHold, noSpeed, recordsOf, tableWithBudget, withBudget}
@@ -118,10 +117,11 @@ module _ (table : Table) (budget : ℕ) (p : Plannable table budget) (all-speeds
       of-table = record { valid = p .valid; terms-of = terms-of-table all-jobs; holds-of = refl; columns-of = of };
     }
 
-    pub table-concludable : (course : CourseTaken) → PlacesOfJobs (course .totals .count) (course .places)
+    pub table-concludable : (course : CourseLeft) → Whole (course .places) (course .fates) → PlacesOfJobs (course .totals .count) (course .places)
         → Totalled (course .totals) (course .places) (columns .cycles) terms
         → Concludable (table .speeds) (table .«speed_count») (columns .cycles) (columns .termination) course terms
-    table-concludable course placed totalled = record {
+    table-concludable course whole placed totalled = record {
+      whole = whole;
       placed = placed;
       totalled = totalled;
       speeds-small =
@@ -148,7 +148,7 @@ by-its-parts table budget columns p all of = record {
 }
 
 -- what is decided for it is the plan with the budget beside the table
-pub decided-beside : (table : Table) (budget : ℕ) (d : Decided) → DecidedAs (recordsOf (tableWithBudget table budget)) d
+pub decided-beside : (table : Table) (budget : ℕ) (d : DecisionLeft) → DecidedAs (recordsOf (tableWithBudget table budget)) d
     → DecidedAs (withBudget (recordsOf table) budget) d
 unfolding recordsOf
 decided-beside table budget d decided = decided

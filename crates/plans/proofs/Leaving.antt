@@ -9,8 +9,8 @@ use lib.Seq.{length-take-le}
 use Rattle.columns.proofs.Entries.{length-jobs-at}
 use Rattle.columns.specs.Columns.{Column, jobsAt}
 use Rattle.steps.proofs.Planned.{fates-alone}
+use Rattle.plans.specs.Courses.{DecisionLeft}
 use Rattle.plans.specs.Promises.{DecidedAs, RoomsNoted, leaves, tells}
-use Rattle.plans.specs.declared.Decided.{Decided}
 use Rattle.rules.specs.Plan.{courseOf, fateIn, fatesOf, leavesPlan, numbersOf, planFrom, planOf}
 use Rattle.rules.specs.Rooms.{TurnRoom, lastRoom, leavesRooms, roomsOf}
 use Rattle.rules.specs.TableText.{Records, mostJobs, noJob, padded}
@@ -47,7 +47,7 @@ same-answer : (t : Records) (count mhz energy : ℕ) (order fates order' fates' 
 unfolding leavesPlan
 same-answer t count mhz energy order fates order' fates' c m e o f = rw (c, m, e, o, f)
 
-module _ (t : Records) (d : Decided) (number : List ℕ) (decided : DecidedAs t d)
+module _ (t : Records) (d : DecisionLeft) (number : List ℕ) (decided : DecidedAs t d)
     (of : Column (λ j. j .number) (t .jobs) number) (all-places : length (d .places) ≡ mostJobs)
     (all-fates : length (d .fates) ≡ mostJobs) (few-jobs : length (t .jobs) ≤ mostJobs) where
   abbrev planned : List ℕ

@@ -11,9 +11,8 @@ use lib.Seq.{ext-getD, getD-set-other, getD-set-same, getD-take, length-take-le,
 use Rattle.columns.specs.Columns.{jobsAt}
 use Rattle.columns.specs.declared.Terms.{Terms}
 use Rattle.laws.proofs.Choices.{split}
-use Rattle.plans.specs.Courses.{jobAt, roomBy, turnAt}
+use Rattle.plans.specs.Courses.{Turns, jobAt, roomBy, turnAt}
 use Rattle.plans.specs.Promises.{RoomsNoted, TurnNoted, TurnsNoted, TurnsOf}
-use Rattle.ranks.specs.declared.Turns.{Turns}
 use Rattle.rules.specs.Plan.{Turn, course, noTurnYet, turnOf, turns}
 use Rattle.rules.specs.Rooms.{TurnRoom, roomLeft, roomsOf}
 use Rattle.rules.specs.TableText.{Records}

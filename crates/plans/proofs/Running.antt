@@ -6,20 +6,18 @@ use Prim.Native.Nat.{ℕ, _≤_, _<_}
 use native.Mathlib.Omega.{arith}
 use lib.ListN.{getD, length, take}
 use lib.Seq.{getD-take, length-take-le}
-use Rattle.chains.specs.Promises.{Deadlines}
-use Rattle.columns.specs.Columns.{AllBelow, ColumnsOf, RunsOf, TermsOf}
+use Rattle.chains.specs.Promises.{Deadlines, Holders}
+use Rattle.chains.specs.Waits.{HolderAt}
+use Rattle.chains.specs.Stage.{Stage}
+use Rattle.columns.specs.Columns.{AllBelow, ColumnsOf, TermsOf}
 use Rattle.columns.specs.declared.Columns.{Columns}
 use Rattle.columns.specs.declared.Terms.{Terms}
 use Rattle.laws.proofs.Elements.{each-at-place}
 use Rattle.plans.proofs.Noting.{rooms-noted}
-use Rattle.plans.specs.Courses.{courseBy, jobAt, turnAt}
+use Rattle.plans.specs.Courses.{CourseLeft, Turns, courseBy, jobAt, turnAt}
 use Rattle.plans.specs.Promises.{CourseNoted, CourseRun, TurnsNoted, TurnsOf, TurnsTaken}
-use Rattle.plans.specs.declared.CourseTaken.{CourseTaken}
 use Rattle.ranks.specs.Promises.{RatioColumns, TurnOrder}
-use Rattle.ranks.specs.declared.Ratios.{Ratios}
-use Rattle.ranks.specs.declared.Turns.{Turns}
 use Rattle.remaining.specs.Promises.{Staged}
-use Rattle.remaining.specs.declared.Left.{Left}
 use Rattle.rules.specs.Lists.{Each, none-left, _and_}
 use Rattle.rules.specs.Plan.{course, courseOf, noTurnYet, turnOf, turns}
 use Rattle.rules.specs.TableText.{Records, mostJobs}
@@ -50,24 +48,33 @@ turn-remains t v order n e i h all few =
 below-as : (n m : ℕ) (xs : List ℕ) → n ≡ m → AllBelow n xs → AllBelow m xs
 below-as n m xs e below i h = omega (arith, below i h)
 
-module _ (holds : List Hold) (hold-count : ℕ) (c : Columns) (terms : Terms) (left : Left) (ratios : Ratios) (order : Turns)
-    (staged : Staged holds hold-count (c .number) (c .cycles) (c .worth) (c .termination) (c .request) terms left)
-    (deadline : List ℕ) (deadlines-of : Deadlines (c .termination) terms deadline)
-    (ratios-of : RatioColumns (left .fates) (left .waits) (c .cycles) (c .worth) deadline (terms .«job_count») ratios)
-    (ordered : TurnOrder (left .fates) (c .number) (ratios .over) (ratios .under) (terms .«job_count») order)
-    (all-places : length (order .order) ≡ mostJobs) where
+-- what steps 1 and 2 leave of a table with these holds and columns
+pub staged-by : (holds : List Hold) (hold-count : ℕ) (c : Columns) (terms : Terms) {holder-at fates waits : List ℕ}
+    → Holders holds (c .number) hold-count (terms .«job_count») holder-at
+    → Staged holder-at (c .number) (c .cycles) (c .worth) (c .termination) (c .request) terms fates waits
+    → (t : Records) → Valid t → TermsOf t terms → take hold-count holds ≡ t .holds → ColumnsOf (t .jobs) c → Stage t fates waits
+staged-by holds hold-count c terms {holder-at} holders staged t valid of holds-of columns =
+    let at : HolderAt (t .jobs) (t .holds) holder-at =
+    rw holds-of at (holders .holders (t .jobs) (sym (of .job-count)) (valid .jobs-rise) (columns .number)) in
+    staged .stage t valid of at (columns .number)
+    (record { cycles-of = columns .cycles; termination-of = columns .termination }) (columns .worth) (columns .request)
+
+module _ (holds : List Hold) (hold-count : ℕ) (c : Columns) (terms : Terms) {holder-at fates waits deadline over under : List ℕ}
+    (order : Turns) (holders : Holders holds (c .number) hold-count (terms .«job_count») holder-at)
+    (staged : Staged holder-at (c .number) (c .cycles) (c .worth) (c .termination) (c .request) terms fates waits)
+    (deadlines-of : Deadlines (c .termination) terms deadline)
+    (ratios-of : RatioColumns fates waits (c .cycles) (c .worth) deadline (terms .«job_count») over under)
+    (ordered : TurnOrder fates (c .number) over under (terms .«job_count») (order .order) (order .count)) where
   abbrev columns-read : TurnColumns
-  columns-read = columnsRead (left .waits) (c .critical) (c .cycles) deadline
+  columns-read = columnsRead waits (c .critical) (c .cycles) deadline
 
   -- the turns are the table's, in their order
   module _ (t : Records) (valid : Valid t) (of : TermsOf t terms) (holds-of : take hold-count holds ≡ t .holds)
       (columns : ColumnsOf (t .jobs) c) where
-    pub turns-of : TurnsOf t order (ratios .over) columns-read (left .fates) terms
+    pub turns-of : TurnsOf t order over columns-read fates terms
         × (map (turnAt t) (take (order .count) (order .order)) ≡ turns t)
     turns-of =
-        let runs : RunsOf (t .jobs) (c .cycles) (c .termination) =
-        record { cycles-of = columns .cycles; termination-of = columns .termination } in
-        let stage = staged .stage t valid of holds-of (columns .number) runs (columns .worth) (columns .request) in
+        let stage = staged-by holds hold-count c terms holders staged t valid of holds-of columns in
         let due = deadlines-of .deadlines-of t of (columns .termination) in
         let told =
         ratios-of .ratios t valid (sym (of .job-count)) (stage .fates-so-far) (stage .waits-left) (columns .cycles) (columns .worth) due in
@@ -88,34 +95,32 @@ module _ (holds : List Hold) (hold-count : ℕ) (c : Columns) (terms : Terms) (l
                 (ordered .below);
             remain = ordered .remain;
             remaining-jobs = λ i h.
-                turn-remains t valid (order .order) (order .count) in-order i h all-places
+                turn-remains t valid (order .order) (order .count) in-order i h (ordered .whole)
                 (omega (arith, ordered .few, of .job-count, valid .few-jobs));
             over-of = told .over-of;
           },
           in-order,
         )
 
-  module _ (r : CourseTaken) where
-    pub steps-1-to-7 : TurnsTaken order (ratios .over) columns-read (left .fates) terms r → CourseRun holds hold-count c terms r
-    steps-1-to-7 taken = record {
-      placed = taken .placed;
-      totalled = taken .totalled;
-      course = λ t valid of holds-of columns.
-          let known = turns-of t valid of holds-of columns in
-          rw (sym (course-in-order t (order .order) (order .count) (known .1))) (taken .course t (known .0));
-    }
+  pub steps-1-to-7 : (r : CourseLeft) → TurnsTaken order over columns-read fates terms r → CourseRun holds hold-count c terms r
+  steps-1-to-7 r taken = record {
+    whole = taken .whole;
+    placed = taken .placed;
+    totalled = taken .totalled;
+    course = λ t valid of holds-of columns.
+        let known = turns-of t valid of holds-of columns in
+        rw (sym (course-in-order t (order .order) (order .count) (known .1))) (taken .course t (known .0));
+  }
 
-    pub turns-noted : (places rooms places' rooms' : List ℕ) → order .count ≤ mostJobs
-        → r .turns ≡ order .count
-        → TurnsNoted (order .count) order (ratios .over) columns-read (left .fates) terms places rooms places' rooms'
-        → CourseNoted holds hold-count c terms r places rooms places' rooms'
-    turns-noted places rooms places' rooms' few counted noted = record {
-      few = omega (arith, counted, few);
-      order-whole = noted .order-whole;
-      rooms-whole = noted .rooms-whole;
-      noted = λ t valid of holds-of columns long-order long-rooms.
-          let known = turns-of t valid of holds-of columns in
-          rw counted
-          (rooms-noted order (ratios .over) columns-read (left .fates) terms t (known .0) places rooms places' rooms' noted
-          (omega (arith, few, all-places)) (omega arith) (omega arith) (known .1));
-    }
+  pub turns-noted : (places rooms places' rooms' : List ℕ) → order .count ≤ mostJobs
+      → TurnsNoted (order .count) order over columns-read fates terms places rooms places' rooms'
+      → CourseNoted holds hold-count c terms (order .count) places rooms places' rooms'
+  turns-noted places rooms places' rooms' few noted = record {
+    few = few;
+    order-whole = noted .order-whole;
+    rooms-whole = noted .rooms-whole;
+    noted = λ t valid of holds-of columns long-order long-rooms.
+        let known = turns-of t valid of holds-of columns in
+        rooms-noted order over columns-read fates terms t (known .0) places rooms places' rooms' noted
+        (omega (arith, few, ordered .whole)) (omega arith) (omega arith) (known .1);
+  }

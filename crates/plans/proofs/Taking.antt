@@ -15,10 +15,8 @@ use Rattle.entries.proofs.Sums.{cycles-of-jobs}
 use Rattle.entries.specs.Promises.{cyclesAt}
 use Rattle.laws.proofs.Elements.{each-map}
 use Rattle.plans.proofs.Courses.{fates-after, fates-at-start, one-more-turn, plan-after}
-use Rattle.plans.specs.Courses.{FatesByTurn, courseBy, jobAt, turnAt}
+use Rattle.plans.specs.Courses.{CourseLeft, FatesByTurn, Turns, courseBy, jobAt, turnAt}
 use Rattle.plans.specs.Promises.{CourseBy, TurnsOf}
-use Rattle.plans.specs.declared.CourseTaken.{CourseTaken}
-use Rattle.ranks.specs.declared.Turns.{Turns}
 use Rattle.rules.specs.Lists.{Each, Rising, none-left, _and_}
 use Rattle.rules.specs.Plan.{Course, Outcome, Turn, course, cyclesOf, inPlan, jobsOf, noTurnYet, runOrder, turn, turnOf}
 use Rattle.rules.specs.Rooms.{roomLeft}
@@ -127,7 +125,7 @@ room-by-record t c places cycles total terms of column jobs total-true =
     rw (of .budget, of .cost, total-true ∙ cycles-of-jobs cycles (t .jobs) column places ∙ ap cyclesOf jobs)
 
 -- after the last turn
-pub at-end : (t : Records) → (c : Course) (r : CourseTaken) (keys : List ℕ) → Rising (λ j. j .number) (t .jobs)
+pub at-end : (t : Records) → (c : Course) (r : CourseLeft) (keys : List ℕ) → Rising (λ j. j .number) (t .jobs)
     → OnCourse t c (planParts (r .totals) (r .places) keys) (r .fates) → CourseBy t c r
 at-end t c r keys rising on =
     let ps = take (r .totals .count) (r .places) in

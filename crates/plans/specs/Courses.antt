@@ -1,4 +1,4 @@
--- The course of turns by places: the turns come in an order of places, and the fates stand in a column.
+-- The course of turns by places: the turns come in an order of places, and the plan's places and the fates stand in columns.
 use mathlib.Core.Bool.{cond}
 use mathlib.Core.List.{List, map}
 use mathlib.Core.Path.{_≡_}
@@ -8,6 +8,48 @@ use Rattle.rules.specs.Plan.{Course, Turn, course, fateDeadlock, fateLate, late
 use Rattle.rules.specs.Rooms.{roomLeft}
 use Rattle.rules.specs.TableText.{Records, noJob}
 use Rattle.rules.specs.declared.Job.{Job}
+use Rattle.rules.specs.declared.Speed.{Speed}
+use Rattle.plans.specs.declared.Decided.{Decided}
+use Rattle.trials.specs.declared.Totals.{Totals}
+
+-- The places of jobs in the order of their turns: the first `count` of a column.
+pub record Turns : Type 0 where
+  pub order : List ℕ
+  pub count : ℕ
+
+abbrev pub turnsBy : List ℕ → ℕ → Turns
+turnsBy order count = record { order = order; count = count }
+
+-- What the course of turns leaves: the plan's places and each job's fate in columns, the totals, and how many turns there were.
+pub record CourseLeft : Type 0 where
+  pub places : List ℕ
+  pub fates : List ℕ
+  pub totals : Totals
+  pub turns : ℕ
+
+abbrev pub courseLeft : List ℕ → List ℕ → Totals → ℕ → CourseLeft
+courseLeft places fates totals turns = record { places = places; fates = fates; totals = totals; turns = turns }
+
+-- What is decided, beside the columns that it is told in.
+pub record DecisionLeft : Type 0 where
+  pub places : List ℕ
+  pub fates : List ℕ
+  pub count : ℕ
+  pub speed : Speed
+  pub energy : ℕ
+  pub turns : ℕ
+  pub cycles : ℕ
+
+abbrev pub decisionLeft : List ℕ → List ℕ → Decided → DecisionLeft
+decisionLeft places fates d = record {
+  places = places;
+  fates = fates;
+  count = d .count;
+  speed = d .speed;
+  energy = d .energy;
+  turns = d .turns;
+  cycles = d .cycles;
+}
 
 -- the job at a place
 abbrev pub jobAt : Records → ℕ → Job

@@ -12,10 +12,7 @@ use Rattle.columns.specs.declared.Columns.{Columns}
 use Rattle.columns.specs.declared.Terms.{Terms}
 use Rattle.entries.specs.Promises.{cyclesAt}
 use Rattle.laws.specs.Pairs.{among}
-use Rattle.plans.specs.Courses.{FatesByTurn, courseBy, jobAt, roomBy}
-use Rattle.plans.specs.declared.CourseTaken.{CourseTaken}
-use Rattle.plans.specs.declared.Decided.{Decided}
-use Rattle.ranks.specs.declared.Turns.{Turns}
+use Rattle.plans.specs.Courses.{CourseLeft, DecisionLeft, FatesByTurn, Turns, courseBy, jobAt, roomBy}
 use Rattle.rules.specs.Answers.{decisionSays, panelSays}
 use Rattle.rules.specs.Plan.{AfterPlanning, Course, chainOf, courseOf, cyclesOf, fateIn, fatePlanned, inPlan, planOf, ratioOf, runOrder}
 use Rattle.rules.specs.Rooms.{AfterRooms, TurnRoom, roomsOf}
@@ -46,6 +43,8 @@ pub record TurnsOf (t : Records) (turns : Turns) (over : List ℕ) (c : TurnColu
 
 -- What the course of turns asks: places, columns and terms in their ranges, and a table that they are of.
 pub record Takeable (turns : Turns) (over : List ℕ) (c : TurnColumns) (so-far : List ℕ) (terms : Terms) : Type 0 where
+  pub order-whole : length (turns .order) ≡ mostJobs
+  pub fates-whole : length so-far ≡ mostJobs
   pub few-turns : turns .count ≤ mostJobs
   pub below : AllBelow mostJobs (take (turns .count) (turns .order))
   pub columns-small : TurnColumnsInRange c
@@ -54,11 +53,16 @@ pub record Takeable (turns : Turns) (over : List ℕ) (c : TurnColumns) (so-far 
   pub of-table : TurnsOf table turns over c so-far terms
 
 -- What stands in places and fates is what a course of turns leaves.
-pub record CourseBy (t : Records) (c : Course) (r : CourseTaken) : Type 0 where
+pub record CourseBy (t : Records) (c : Course) (r : CourseLeft) : Type 0 where
   pub jobs : jobsAt (t .jobs) (take (r .totals .count) (r .places)) ≡ runOrder t (c .plan)
   pub planned : (i : ℕ) → i < length (t .jobs)
       → among (take (r .totals .count) (r .places)) i ≡ inPlan (jobAt t i) (c .plan)
   pub fates : FatesByTurn t c (r .fates)
+
+-- Whole columns for the plan's places and the fates.
+pub record Whole (places fates : List ℕ) : Type 0 where
+  pub places-whole : length places ≡ mostJobs
+  pub fates-whole : length fates ≡ mostJobs
 
 -- Places of jobs, no more than there are places.
 pub record PlacesOfJobs (count : ℕ) (places : List ℕ) : Type 0 where
@@ -71,11 +75,11 @@ pub record Totalled (totals : Totals) (places cycles : List ℕ) (terms : Terms)
   pub within : totals .cycles * terms .cost ≤ terms .budget
 
 -- The course of these turns.
-pub record TurnsTaken (turns : Turns) (over : List ℕ) (c : TurnColumns) (so-far : List ℕ) (terms : Terms) (r : CourseTaken)
+pub record TurnsTaken (turns : Turns) (over : List ℕ) (c : TurnColumns) (so-far : List ℕ) (terms : Terms) (r : CourseLeft)
     : Type 0 where
+  pub whole : Whole (r .places) (r .fates)
   pub placed : PlacesOfJobs (r .totals .count) (r .places)
   pub totalled : Totalled (r .totals) (r .places) (c .cycles) terms
-  pub turns-counted : r .turns ≡ turns .count
   pub course : (t : Records) → TurnsOf t turns over c so-far terms
       → CourseBy t (courseBy t (turns .order) (turns .count)) r
 
@@ -94,17 +98,6 @@ pub record TurnsNoted (n : ℕ) (turns : Turns) (over : List ℕ) (c : TurnColum
   pub room-noted : (t : Records) → TurnsOf t turns over c so-far terms → (k : ℕ) → k < n → k < length order → k < length rooms
       → getD rooms' k 0 ≡ roomBy t (turns .order) (k + 1)
 
--- the columns side by side
-abbrev pub besides : List ℕ → List ℕ → List ℕ → List ℕ → List ℕ → List ℕ → Columns
-besides number cycles worth critical termination request = record {
-  number = number;
-  cycles = cycles;
-  worth = worth;
-  critical = critical;
-  termination = termination;
-  request = request;
-}
-
 -- A valid table has these terms, holds and columns.
 pub record CourseOf (t : Records) (holds : List Hold) (hold-count : ℕ) (columns : Columns) (terms : Terms) : Type 0 where
   pub valid : Valid t
@@ -121,7 +114,8 @@ pub record CourseRunnable (holds : List Hold) (hold-count : ℕ) (columns : Colu
   pub of-table : CourseOf table holds hold-count columns terms
 
 -- The course of the table's turns.
-pub record CourseRun (holds : List Hold) (hold-count : ℕ) (columns : Columns) (terms : Terms) (r : CourseTaken) : Type 0 where
+pub record CourseRun (holds : List Hold) (hold-count : ℕ) (columns : Columns) (terms : Terms) (r : CourseLeft) : Type 0 where
+  pub whole : Whole (r .places) (r .fates)
   pub placed : PlacesOfJobs (r .totals .count) (r .places)
   pub totalled : Totalled (r .totals) (r .places) (columns .cycles) terms
   pub course : (t : Records) → Valid t → TermsOf t terms → take hold-count holds ≡ t .holds
@@ -134,21 +128,23 @@ pub record RoomsNoted (t : Records) (count : ℕ) (order rooms : List ℕ) : Typ
   pub row-rooms : take count rooms ≡ map (λ (r : TurnRoom). r .room) (roomsOf t)
 
 -- What is noted of the table's turns, where there is a place for each.
-pub record CourseNoted (holds : List Hold) (hold-count : ℕ) (columns : Columns) (terms : Terms) (r : CourseTaken)
+pub record CourseNoted (holds : List Hold) (hold-count : ℕ) (columns : Columns) (terms : Terms) (turns : ℕ)
     (order rooms order' rooms' : List ℕ) : Type 0 where
-  pub few : r .turns ≤ mostJobs
+  pub few : turns ≤ mostJobs
   pub order-whole : length order' ≡ length order
   pub rooms-whole : length rooms' ≡ length rooms
   pub noted : (t : Records) → Valid t → TermsOf t terms → take hold-count holds ≡ t .holds → ColumnsOf (t .jobs) columns
-      → mostJobs ≤ length order → mostJobs ≤ length rooms → RoomsNoted t (r .turns) order' rooms'
+      → mostJobs ≤ length order → mostJobs ≤ length rooms → RoomsNoted t turns order' rooms'
 
 -- At each of these places 1; the others as they were.
 pub record Marked (places fates fates' : List ℕ) : Type 0 where
+  pub whole : length fates' ≡ mostJobs
   pub marked : (i : ℕ) → i < mostJobs → getD fates' i 0 ≡ cond (among places i) fatePlanned (getD fates i 0)
 
 -- Speeds, columns, terms and what the turns left in their ranges.
-pub record Concludable (speeds : List Speed) (speed-count : ℕ) (cycles termination : List ℕ) (course : CourseTaken) (terms : Terms)
+pub record Concludable (speeds : List Speed) (speed-count : ℕ) (cycles termination : List ℕ) (course : CourseLeft) (terms : Terms)
     : Type 0 where
+  pub whole : Whole (course .places) (course .fates)
   pub placed : PlacesOfJobs (course .totals .count) (course .places)
   pub totalled : Totalled (course .totals) (course .places) cycles terms
   pub speeds-small : SpeedsInRange speeds speed-count
@@ -156,7 +152,7 @@ pub record Concludable (speeds : List Speed) (speed-count : ℕ) (cycles termina
   pub terms-small : TermsInRange terms
 
 -- What is decided is the rules' plan: its jobs by their places, a fate for each job, the speed and the energy, and all cycles.
-pub record DecidedAs (t : Records) (d : Decided) : Type 0 where
+pub record DecidedAs (t : Records) (d : DecisionLeft) : Type 0 where
   pub placed : PlacesOfJobs (d .count) (d .places)
   pub jobs : jobsAt (t .jobs) (take (d .count) (d .places)) ≡ planOf t .jobs
   pub fates : (i : ℕ) → i < length (t .jobs) → getD (d .fates) i 0 ≡ fateIn t (courseOf t) (jobAt t i)
@@ -164,8 +160,9 @@ pub record DecidedAs (t : Records) (d : Decided) : Type 0 where
   pub energy : d .energy ≡ planOf t .energy
   pub cycles : d .cycles ≡ cyclesOf (planOf t .jobs)
 
-pub record Concluded (speeds : List Speed) (speed-count : ℕ) (cycles termination : List ℕ) (course : CourseTaken) (terms : Terms)
-    (r : Decided) : Type 0 where
+pub record Concluded (speeds : List Speed) (speed-count : ℕ) (cycles termination : List ℕ) (course : CourseLeft) (terms : Terms)
+    (r : DecisionLeft) : Type 0 where
+  pub whole : Whole (r .places) (r .fates)
   pub decided : (t : Records) → Valid t → SpeedsOf t speeds speed-count cycles termination terms
       → CourseBy t (courseOf t) course → DecidedAs t r
   pub turns-counted : r .turns ≡ course .turns
@@ -210,20 +207,21 @@ Decidable clock budget speeds speed-count holds hold-count job-count columns =
     (jobs : List Job) × PlannableBy (assembled clock budget speeds speed-count holds hold-count job-count jobs) columns
 
 abbrev pub Decides : (clock budget : ℕ) (speeds : List Speed) (speed-count : ℕ) (holds : List Hold) (hold-count job-count : ℕ)
-    → Columns → Decided → Type 0
+    → Columns → DecisionLeft → Type 0
 Decides clock budget speeds speed-count holds hold-count job-count columns r =
-    (jobs : List Job) → PlannableBy (assembled clock budget speeds speed-count holds hold-count job-count jobs) columns
-    → DecidedAs (recordsOf (assembled clock budget speeds speed-count holds hold-count job-count jobs)) r
+    Whole (r .places) (r .fates)
+    × ((jobs : List Job) → PlannableBy (assembled clock budget speeds speed-count holds hold-count job-count jobs) columns
+    → DecidedAs (recordsOf (assembled clock budget speeds speed-count holds hold-count job-count jobs)) r)
 
 -- What is noted of the turns of each table of these parts, where there is a place for each.
 pub record DecisionNoted (clock budget : ℕ) (speeds : List Speed) (speed-count : ℕ) (holds : List Hold) (hold-count job-count : ℕ)
-    (columns : Columns) (r : Decided) (order rooms order' rooms' : List ℕ) : Type 0 where
-  pub few : r .turns ≤ mostJobs
+    (columns : Columns) (turns : ℕ) (order rooms order' rooms' : List ℕ) : Type 0 where
+  pub few : turns ≤ mostJobs
   pub order-whole : length order' ≡ length order
   pub rooms-whole : length rooms' ≡ length rooms
   pub noted : (jobs : List Job) → PlannableBy (assembled clock budget speeds speed-count holds hold-count job-count jobs) columns
       → mostJobs ≤ length order → mostJobs ≤ length rooms
-      → RoomsNoted (recordsOf (assembled clock budget speeds speed-count holds hold-count job-count jobs)) (r .turns) order' rooms'
+      → RoomsNoted (recordsOf (assembled clock budget speeds speed-count holds hold-count job-count jobs)) turns order' rooms'
 
 -- the decision beside what both buffers hold
 abbrev pub leaves : Decision → List ℕ → List ℕ → AfterPlanning

@@ -1,5 +1,8 @@
 // Steps 5 to 9 of "From jobs to a plan": the course of turns, the fates, the plan of a valid table, and its rooms (document 02, A2).
+use chains::NOBODY;
+use chains::RESOURCES;
 use chains::deadlines;
+use chains::holders;
 use columns::Terms;
 use columns::columns_of;
 use entries::NOT_PLANNED;
@@ -8,7 +11,6 @@ use filling::note;
 use filling::put_fates;
 use filling::put_order;
 use judgements::MOST_CHANGES;
-use ranks::Turns;
 use ranks::chain_ratios;
 use ranks::turn_order;
 use remaining::take_out;
@@ -18,6 +20,7 @@ use rules::Hold;
 use rules::MOST_HOLDS;
 use rules::MOST_JOBS;
 use rules::MOST_SPEEDS;
+use rules::NO_FATE;
 use rules::Panel;
 use rules::Speed;
 use rules::Table;
@@ -28,28 +31,25 @@ use trials::turn;
 ghost use mathlib.Core.Path.{_≡_};
 ghost use Prim.Native.Nat.{_-_, _*_, _≤_};
 ghost use lib.ListN.{length};
-ghost use Rattle.columns.specs.Columns.{AllBelow};
-ghost use Rattle.plans.specs.Promises.{Concludable, Concluded, CourseNoted, CourseRun, CourseRunnable, Decidable, Decides, DecisionNoted, Marked, Plannable, Takeable, TurnNoted, TurnsNoted, TurnsTaken, besides, leaves, tells, termsBy};
+ghost use Rattle.columns.specs.Columns.{AllBelow, besides};
+ghost use Rattle.plans.specs.Courses.{courseLeft, decisionLeft, turnsBy};
+ghost use Rattle.plans.specs.Promises.{Concludable, Concluded, CourseNoted, CourseRun, CourseRunnable, Decidable, Decides, DecisionNoted, Marked, Plannable, Takeable, TurnNoted, TurnsNoted, TurnsTaken, Whole, leaves, tells, termsBy};
 ghost use Rattle.rules.specs.Plan.{leavesPlan, planOf};
 ghost use Rattle.rules.specs.Rooms.{leavesRooms};
 ghost use Rattle.rules.specs.TableText.{mostJobs, mostSpeeds, recordsOf, withBudget};
 ghost use Rattle.trials.specs.Promises.{columnsRead};
 
-// What the course of turns leaves: the plan's places, its totals, the fate that each job's own turn gave, and how many turns
-// there were.
+// What the course of turns leaves beside the plan's places and the fate that each job's own turn gave, which stand in lent
+// columns: the plan's totals, and how many turns there were.
 pub struct CourseTaken {
-    pub places: [u64; MOST_JOBS],
     pub totals: Totals,
-    pub fates: [u64; MOST_JOBS],
     pub turns: usize,
 }
 
-// The decision: the plan's places, how many they are, each job's fate, the speed and the energy; how many turns there were, and
-// the plan record's total.
+// The decision, beside the plan's places and each job's fate in lent columns: how many places they are, the speed and the
+// energy; how many turns there were, and the plan record's total.
 pub struct Decided {
-    pub places: [u64; MOST_JOBS],
     pub count: usize,
-    pub fates: [u64; MOST_JOBS],
     pub speed: Speed,
     pub energy: u64,
     pub turns: usize,
@@ -83,26 +83,28 @@ fn note_turn(
     note(rooms, turn, room_left(totals.cycles, terms));
 }
 
-// Step 5, "Turns": each job of the order in its turn, from the empty plan. Each turn is noted.
+// Step 5, "Turns": each of these jobs in its turn, from the empty plan. Its fate is put over that of steps 1 and 2, which is 0, and
+// the turn is noted.
 fn take_turns<'a>(
-    turns: Turns,
+    places: &mut [u64; MOST_JOBS],
+    fates: &mut [u64; MOST_JOBS],
+    turns: &'a [u64; MOST_JOBS],
+    turn_count: usize,
     over: &'a [u64; MOST_JOBS],
     waits: &'a [u64; MOST_JOBS],
     critical: &'a [u64; MOST_JOBS],
     cycles: &'a [u64; MOST_JOBS],
     deadline: &'a [u64; MOST_JOBS],
-    so_far: [u64; MOST_JOBS],
     terms: Terms,
     order: &mut [u64],
     rooms: &mut [u64],
-) -> CourseTaken
-    requires { ⌜ Takeable turns (now over) (columnsRead (now waits) (now critical) (now cycles) (now deadline)) «so_far» terms ⌝ }
+) -> Totals
+    requires { ⌜ (length (now places) ≡ mostJobs) × Takeable (turnsBy (now turns) «turn_count») (now over) (columnsRead (now waits) (now critical) (now cycles) (now deadline)) (now fates) terms ⌝ }
     ensures { λ r. ⌜
-        TurnsTaken turns (now (over .entry)) (columnsRead (now (waits .entry)) (now (critical .entry)) (now (cycles .entry)) (now (deadline .entry))) «so_far» terms r
-        × TurnsNoted (turns .count) turns (now (over .entry)) (columnsRead (now (waits .entry)) (now (critical .entry)) (now (cycles .entry)) (now (deadline .entry))) «so_far» terms (now (order .entry)) (now (rooms .entry)) (now (order .exit)) (now (rooms .exit))
+        TurnsTaken (turnsBy (now (turns .entry)) «turn_count») (now (over .entry)) (columnsRead (now (waits .entry)) (now (critical .entry)) (now (cycles .entry)) (now (deadline .entry))) (now (fates .entry)) terms (courseLeft (now (places .exit)) (now (fates .exit)) r «turn_count»)
+        × TurnsNoted «turn_count» (turnsBy (now (turns .entry)) «turn_count») (now (over .entry)) (columnsRead (now (waits .entry)) (now (critical .entry)) (now (cycles .entry)) (now (deadline .entry))) (now (fates .entry)) terms (now (order .entry)) (now (rooms .entry)) (now (order .exit)) (now (rooms .exit))
         ⌝ }
 {
-    let mut places = [0; MOST_JOBS];
     let mut keys = [NOT_PLANNED; MOST_JOBS];
     let mut ends = [0; MOST_JOBS];
     let mut latests = [0; MOST_JOBS];
@@ -112,16 +114,15 @@ fn take_turns<'a>(
         count: 0,
         cycles: 0,
     };
-    let mut fates = so_far;
     let mut i = 0;
-    while i < turns.count {
-        let place = turns.order[i] as usize;
+    while i < turn_count {
+        let place = turns[i] as usize;
         let job = JobInTurn {
             place,
             over: over[place],
         };
         let turned = turn(
-            &mut places,
+            places,
             &mut keys,
             &mut ends,
             &mut latests,
@@ -140,32 +141,27 @@ fn take_turns<'a>(
         note_turn(order, rooms, i, place as u64, totals, terms);
         i += 1;
     }
-    CourseTaken {
-        places,
-        totals,
-        fates,
-        turns: turns.count,
-    }
+    totals
 }
 
 // Step 8, "Planned is 1, also for a job that came in with another's chain": at each of these places.
-fn mark_planned(fates: [u64; MOST_JOBS], places: &[u64]) -> [u64; MOST_JOBS]
-    requires { ⌜ AllBelow mostJobs (now places) ⌝ }
-    ensures { λ r. ⌜ Marked (now (places .entry)) fates r ⌝ }
+fn mark_planned(fates: &mut [u64; MOST_JOBS], places: &[u64])
+    requires { ⌜ (length (now fates) ≡ mostJobs) × AllBelow mostJobs (now places) ⌝ }
+    ensures { λ _. ⌜ Marked (now (places .entry)) (now (fates .entry)) (now (fates .exit)) ⌝ }
 {
-    let mut marked = fates;
     let mut i = 0;
     while i < places.len() {
         let place = places[i] as usize;
-        marked[place] = FATE_PLANNED;
+        fates[place] = FATE_PLANNED;
         i += 1;
     }
-    marked
 }
 
 // Steps 1 to 7: the course of all turns, noted as `take_turns` notes it. The columns are lent one by one: by value they would be
 // copied once more.
 pub fn course_of<'a>(
+    places: &mut [u64; MOST_JOBS],
+    fates: &mut [u64; MOST_JOBS],
     holds: [Hold; MOST_HOLDS],
     hold_count: usize,
     number: &'a [u64; MOST_JOBS],
@@ -178,15 +174,20 @@ pub fn course_of<'a>(
     order: &mut [u64],
     rooms: &mut [u64],
 ) -> CourseTaken
-    requires { ⌜ CourseRunnable holds «hold_count» (besides (now number) (now cycles) (now worth) (now critical) (now termination) (now request)) terms ⌝ }
+    requires { ⌜ Whole (now places) (now fates) × CourseRunnable holds «hold_count» (besides (now number) (now cycles) (now worth) (now critical) (now termination) (now request)) terms ⌝ }
     ensures { λ r. ⌜
-        CourseRun holds «hold_count» (besides (now (number .entry)) (now (cycles .entry)) (now (worth .entry)) (now (critical .entry)) (now (termination .entry)) (now (request .entry))) terms r
-        × CourseNoted holds «hold_count» (besides (now (number .entry)) (now (cycles .entry)) (now (worth .entry)) (now (critical .entry)) (now (termination .entry)) (now (request .entry))) terms r (now (order .entry)) (now (rooms .entry)) (now (order .exit)) (now (rooms .exit))
+        CourseRun holds «hold_count» (besides (now (number .entry)) (now (cycles .entry)) (now (worth .entry)) (now (critical .entry)) (now (termination .entry)) (now (request .entry))) terms (courseLeft (now (places .exit)) (now (fates .exit)) (r .totals) (r .turns))
+        × CourseNoted holds «hold_count» (besides (now (number .entry)) (now (cycles .entry)) (now (worth .entry)) (now (critical .entry)) (now (termination .entry)) (now (request .entry))) terms (r .turns) (now (order .entry)) (now (rooms .entry)) (now (order .exit)) (now (rooms .exit))
         ⌝ }
 {
-    let left = take_out(
-        holds,
-        hold_count,
+    let jobs = terms.job_count;
+    let mut holder_at = [NOBODY; RESOURCES];
+    holders(&mut holder_at, holds, hold_count, number, jobs);
+    let mut waits = [0; MOST_JOBS];
+    take_out(
+        fates,
+        &mut waits,
+        &holder_at,
         number,
         cycles,
         worth,
@@ -196,26 +197,44 @@ pub fn course_of<'a>(
     );
     let mut deadline = [0; MOST_JOBS];
     deadlines(&mut deadline, termination, terms);
-    let jobs = terms.job_count;
-    let ratios = chain_ratios(&left.fates, &left.waits, cycles, worth, &deadline, jobs);
-    let turns = turn_order(&left.fates, number, &ratios.over, &ratios.under, jobs);
-    let so_far = left.fates;
-    take_turns(
-        turns,
-        &ratios.over,
-        &left.waits,
+    let mut over = [0; MOST_JOBS];
+    let mut under = [0; MOST_JOBS];
+    chain_ratios(
+        &mut over,
+        &mut under,
+        fates,
+        &waits,
+        cycles,
+        worth,
+        &deadline,
+        jobs,
+    );
+    let mut turns = [0; MOST_JOBS];
+    let turn_count = turn_order(&mut turns, fates, number, &over, &under, jobs);
+    let totals = take_turns(
+        places,
+        fates,
+        &turns,
+        turn_count,
+        &over,
+        &waits,
         critical,
         cycles,
         &deadline,
-        so_far,
         terms,
         order,
         rooms,
-    )
+    );
+    CourseTaken {
+        totals,
+        turns: turn_count,
+    }
 }
 
 // Steps 8 and 9, once all turns are taken.
 fn conclude<'a>(
+    fates: &mut [u64; MOST_JOBS],
+    places: &[u64; MOST_JOBS],
     speeds: [Speed; MOST_SPEEDS],
     speed_count: usize,
     cycles: &'a [u64; MOST_JOBS],
@@ -223,13 +242,13 @@ fn conclude<'a>(
     course: CourseTaken,
     terms: Terms,
 ) -> Decided
-    requires { ⌜ Concludable speeds «speed_count» (now cycles) (now termination) course terms ⌝ }
-    ensures { λ r. ⌜ Concluded speeds «speed_count» (now (cycles .entry)) (now (termination .entry)) course terms r ⌝ }
+    requires { ⌜ Concludable speeds «speed_count» (now cycles) (now termination) (courseLeft (now places) (now fates) (course .totals) (course .turns)) terms ⌝ }
+    ensures { λ r. ⌜ Concluded speeds «speed_count» (now (cycles .entry)) (now (termination .entry)) (courseLeft (now (places .entry)) (now (fates .entry)) (course .totals) (course .turns)) terms (decisionLeft (now (places .entry)) (now (fates .exit)) r) ⌝ }
 {
-    let places = course.places;
     let totals = course.totals;
     let count = totals.count;
-    let planned = &places[..count];
+    let all_places = &places[..];
+    let planned = &all_places[..count];
     let all_cycles = totals.cycles;
     let chosen = choose_speed(
         speeds,
@@ -241,12 +260,9 @@ fn conclude<'a>(
         terms,
     );
     let speed = chosen.speed;
-    let by_turn = course.fates;
-    let fates = mark_planned(by_turn, planned);
+    mark_planned(fates, planned);
     Decided {
-        places: places,
         count: count,
-        fates: fates,
         speed: speed,
         energy: chosen.energy,
         turns: course.turns,
@@ -278,6 +294,8 @@ pub fn terms_of(
 // Steps 1 to 9 on a valid table, by its columns, lent one by one, and its other parts: a whole table given to a function is copied,
 // and so are columns. The turns are noted as the course of turns notes them.
 pub fn decide<'a>(
+    places: &mut [u64; MOST_JOBS],
+    fates: &mut [u64; MOST_JOBS],
     clock: u64,
     budget: u64,
     speeds: [Speed; MOST_SPEEDS],
@@ -294,14 +312,16 @@ pub fn decide<'a>(
     order: &mut [u64],
     rooms: &mut [u64],
 ) -> Decided
-    requires { ⌜ Decidable clock budget speeds «speed_count» holds «hold_count» «job_count» (besides (now number) (now cycles) (now worth) (now critical) (now termination) (now request)) ⌝ }
+    requires { ⌜ Whole (now places) (now fates) × Decidable clock budget speeds «speed_count» holds «hold_count» «job_count» (besides (now number) (now cycles) (now worth) (now critical) (now termination) (now request)) ⌝ }
     ensures { λ r. ⌜
-        Decides clock budget speeds «speed_count» holds «hold_count» «job_count» (besides (now (number .entry)) (now (cycles .entry)) (now (worth .entry)) (now (critical .entry)) (now (termination .entry)) (now (request .entry))) r
-        × DecisionNoted clock budget speeds «speed_count» holds «hold_count» «job_count» (besides (now (number .entry)) (now (cycles .entry)) (now (worth .entry)) (now (critical .entry)) (now (termination .entry)) (now (request .entry))) r (now (order .entry)) (now (rooms .entry)) (now (order .exit)) (now (rooms .exit))
+        Decides clock budget speeds «speed_count» holds «hold_count» «job_count» (besides (now (number .entry)) (now (cycles .entry)) (now (worth .entry)) (now (critical .entry)) (now (termination .entry)) (now (request .entry))) (decisionLeft (now (places .exit)) (now (fates .exit)) r)
+        × DecisionNoted clock budget speeds «speed_count» holds «hold_count» «job_count» (besides (now (number .entry)) (now (cycles .entry)) (now (worth .entry)) (now (critical .entry)) (now (termination .entry)) (now (request .entry))) (r .turns) (now (order .entry)) (now (rooms .entry)) (now (order .exit)) (now (rooms .exit))
         ⌝ }
 {
     let terms = terms_of(clock, budget, speeds, speed_count, job_count);
     let course = course_of(
+        places,
+        fates,
         holds,
         hold_count,
         number,
@@ -314,7 +334,16 @@ pub fn decide<'a>(
         order,
         rooms,
     );
-    conclude(speeds, speed_count, cycles, termination, course, terms)
+    conclude(
+        fates,
+        places,
+        speeds,
+        speed_count,
+        cycles,
+        termination,
+        course,
+        terms,
+    )
 }
 
 // The planner on a valid table, with the budget beside it: the decision, and both buffers whole.
@@ -327,7 +356,11 @@ pub fn plan_table(table: Table, budget: u64, order: &mut [u64], fates: &mut [u64
     let holds = table.holds;
     let mut no_order = [0; 0];
     let mut no_rooms = [0; 0];
+    let mut places = [0; MOST_JOBS];
+    let mut by_job = [NO_FATE; MOST_JOBS];
     let decided = decide(
+        &mut places,
+        &mut by_job,
         table.clock,
         budget,
         speeds,
@@ -344,8 +377,6 @@ pub fn plan_table(table: Table, budget: u64, order: &mut [u64], fates: &mut [u64
         &mut no_order,
         &mut no_rooms,
     );
-    let places = decided.places;
-    let by_job = decided.fates;
     put_order(order, &places[..decided.count], &columns.number);
     put_fates(fates, &by_job[..table.job_count]);
     Decision::Plan {
@@ -364,7 +395,11 @@ pub fn rooms_of(table: Table, budget: u64, turns: &mut [u64], rooms: &mut [u64])
     let speeds = table.speeds;
     let holds = table.holds;
     let mut order = [0; MOST_JOBS];
+    let mut places = [0; MOST_JOBS];
+    let mut by_job = [NO_FATE; MOST_JOBS];
     let decided = decide(
+        &mut places,
+        &mut by_job,
         table.clock,
         budget,
         speeds,

@@ -2,12 +2,12 @@
 -- nothing.
 use mathlib.Core.Bool.{true, false}
 use mathlib.Core.List.{List}
-use mathlib.Core.Path.{_≡_, refl, _∙_}
+use mathlib.Core.Path.{_≡_, _∙_}
 use Prim.Native.Nat.{ℕ, _+_, _≤_, _<_}
 use native.Mathlib.Omega.{arith}
 use borrow.Author.Tests.{eqb-false, eqb-true}
 use lib.Dec.{eqb}
-use lib.ListN.{getD, length, length-set, replicate, set}
+use lib.ListN.{getD, length, length-set, set}
 use lib.Seq.{getD-set-other, getD-set-same}
 use Rattle.laws.proofs.Choices.{split}
 use Rattle.rules.specs.TableText.{mostJobs}
@@ -22,8 +22,8 @@ pub record FilledTo (Right : ℕ → ℕ → Type 0) (i : ℕ) (xs : List ℕ) :
   pub right : RightBelow Right i xs
 
 module _ (Right : ℕ → ℕ → Type 0) where
-  pub nothing-filled : FilledTo Right 0 (replicate mostJobs 0)
-  nothing-filled = record { whole = refl; right = λ k l. absurd (omega arith) }
+  pub nothing-filled : (xs : List ℕ) → length xs ≡ mostJobs → FilledTo Right 0 xs
+  nothing-filled xs whole = record { whole = whole; right = λ k l. absurd (omega arith) }
 
   stored-right : (xs : List ℕ) (i v : ℕ) → i < length xs → RightBelow Right i xs → Right i v
       → RightBelow Right (i + 1) (set xs i v)

@@ -8,16 +8,14 @@ use Prim.Native.Nat.{ℕ, _<_}
 use lib.Dec.{eqb}
 use lib.ListN.{getD, length}
 use Rattle.chains.proofs.Stage.{left-are, staysLeft, staysTimely, timely-are}
-use Rattle.chains.specs.Promises.{Holders}
 use Rattle.chains.specs.Stage.{FatesSoFar, fateIfLate, fateSoFar}
-use Rattle.chains.specs.Waits.{HolderAt, Remaining, Waits}
+use Rattle.chains.specs.Waits.{Remaining, Waits}
 use Rattle.columns.specs.declared.Terms.{Terms}
 use Rattle.remaining.specs.Promises.{LateFates, RingFates, Staged, WaitsColumn}
 use Rattle.rules.specs.Lists.{keep}
 use Rattle.rules.specs.Plan.{awaited, fateDeadlock, fateLate, lateIn, leavesItsRing, leavesRing, waitsFor, waitsLeft}
 use Rattle.rules.specs.Plan.{waitsTimely}
 use Rattle.rules.specs.TableText.{Records, noJob}
-use Rattle.rules.specs.declared.Hold.{Hold}
 use Rattle.rules.specs.declared.Job.{Job}
 
 -- the fate after step 2 of a job with a fate of step 1, which leaves its ring or not
@@ -53,20 +51,18 @@ module _ (t : Records) where
   left-remain : (fates : List ℕ) → FatesSoFar t fates → Remaining (t .jobs) (staysLeft t) fates
   left-remain fates e i l = rw (e i l)
 
-module _ {holds : List Hold} {hold-count : ℕ} {number cycles worth termination request : List ℕ} {terms : Terms}
+module _ {number cycles worth termination request : List ℕ} {terms : Terms}
     {late holder-at timely-waits fates waits : List ℕ} (late-fates : LateFates cycles termination terms late)
-    (holders : Holders holds number hold-count (terms .«job_count») holder-at)
     (among-timely : WaitsColumn request holder-at late (terms .«job_count») timely-waits)
     (ring-fates : RingFates late timely-waits number worth cycles (terms .«job_count») fates)
     (among-left : WaitsColumn request holder-at fates (terms .«job_count») waits) where
-  pub steps-1-and-2 : Staged holds hold-count number cycles worth termination request terms
-      (record { fates = fates; waits = waits })
+  pub steps-1-and-2 : Staged holder-at number cycles worth termination request terms fates waits
   steps-1-and-2 = record {
-    stage = λ t valid terms-of holds-of number-of runs worth-of request-of.
+    fates-whole = ring-fates .whole;
+    waits-whole = among-left .whole;
+    stage = λ t valid terms-of at number-of runs worth-of request-of.
         let long = sym (terms-of .job-count) in
         let rising = valid .jobs-rise in
-        let at : HolderAt (t .jobs) (t .holds) holder-at =
-        rw holds-of at (holders .holders (t .jobs) long rising number-of) in
         let late-of : (i : ℕ) → i < length (t .jobs) → getD late i 0 ≡ fateIfLate t (getD (t .jobs) i noJob) =
         late-fates .late t terms-of runs in
         let timely-waits-of =

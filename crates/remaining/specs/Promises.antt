@@ -5,14 +5,12 @@ use mathlib.Core.Option.{Option}
 use mathlib.Core.Path.{_≡_}
 use Prim.Native.Nat.{ℕ, _<_}
 use lib.Dec.{eqb}
-use lib.ListN.{getD, length, take}
-use Rattle.chains.specs.Promises.{Holdable}
+use lib.ListN.{getD, length}
 use Rattle.chains.specs.Stage.{Stage, fateIfLate}
 use Rattle.chains.specs.Waits.{HolderAt, Remaining, Waits}
 use Rattle.columns.specs.Columns.{AtMost, Column, RunsOf, TermsOf}
 use Rattle.columns.specs.Ranges.{RunsInRange, TermsInRange}
 use Rattle.columns.specs.declared.Terms.{Terms}
-use Rattle.remaining.specs.declared.Left.{Left}
 use Rattle.rules.specs.Lists.{Rising, keep}
 use Rattle.rules.specs.Plan.{awaited, fateDeadlock, leavesRing, waitsFor}
 use Rattle.rules.specs.TableText.{Records, mostJobs, mostResource, mostWorth, noJob}
@@ -22,10 +20,12 @@ use Rattle.rules.specs.declared.Job.{Job}
 
 -- The fates of step 1.
 pub record LateFates (cycles termination : List ℕ) (terms : Terms) (r : List ℕ) : Type 0 where
+  pub whole : length r ≡ mostJobs
   pub late : (t : Records) → TermsOf t terms → RunsOf (t .jobs) cycles termination → (i : ℕ) → i < length (t .jobs) → getD r i 0 ≡ fateIfLate t (getD (t .jobs) i noJob)
 
 -- Whom each job waits for among those of fate 0.
 pub record WaitsColumn (request holder-at fates : List ℕ) (job-count : ℕ) (r : List ℕ) : Type 0 where
+  pub whole : length r ≡ mostJobs
   pub waits : (js : List Job) (holds : List Hold) (remains : Job → Bool) → length js ≡ job-count
       → Rising (λ j. j .number) js → Column (λ j. j .request) js request → HolderAt js holds holder-at
       → Remaining js remains fates → Waits js (waitsFor holds (keep remains js)) r
@@ -51,6 +51,7 @@ pub record RingFate (late awaits place : ℕ) (waits number worth cycles : List 
 
 -- The fates before, and 3 for each job of fate 0 that leaves its ring.
 pub record RingFates (late waits number worth cycles : List ℕ) (job-count : ℕ) (r : List ℕ) : Type 0 where
+  pub whole : length r ≡ mostJobs
   pub fates : (t : Records) (js : List Job) (next : Job → Option Job) → length js ≡ job-count
       → Rising (λ j. j .number) js → Waits js next waits → Column (λ j. j .number) js number
       → Column (λ j. j .worth) js worth → Column (λ j. j .cycles) js cycles
@@ -59,19 +60,21 @@ pub record RingFates (late waits number worth cycles : List ℕ) (job-count : �
       ≡ cond (eqb (getD late i 0) 0)
       (cond (leavesRing t (awaited next (getD js i noJob)) (getD js i noJob)) fateDeadlock 0) (getD late i 0)
 
--- Holds, columns and terms in their ranges.
-pub record Stageable (holds : List Hold) (hold-count : ℕ) (cycles worth termination request : List ℕ) (terms : Terms)
-    : Type 0 where
-  pub holdable : Holdable holds hold-count (terms .«job_count»)
+-- Whole columns to be filled, and columns and terms in their ranges.
+pub record Stageable (fates waits cycles worth termination request : List ℕ) (terms : Terms) : Type 0 where
+  pub fates-whole : length fates ≡ mostJobs
+  pub waits-whole : length waits ≡ mostJobs
   pub runs-small : RunsInRange cycles termination
   pub worth-small : AtMost mostWorth worth
   pub request-small : AtMost mostResource request
   pub terms-small : TermsInRange terms
 
 -- What steps 1 and 2 leave.
-pub record Staged (holds : List Hold) (hold-count : ℕ) (number cycles worth termination request : List ℕ) (terms : Terms)
-    (r : Left) : Type 0 where
-  pub stage : (t : Records) → Valid t → TermsOf t terms → take hold-count holds ≡ t .holds
+pub record Staged (holder-at number cycles worth termination request : List ℕ) (terms : Terms) (fates waits : List ℕ)
+    : Type 0 where
+  pub fates-whole : length fates ≡ mostJobs
+  pub waits-whole : length waits ≡ mostJobs
+  pub stage : (t : Records) → Valid t → TermsOf t terms → HolderAt (t .jobs) (t .holds) holder-at
       → Column (λ j. j .number) (t .jobs) number → RunsOf (t .jobs) cycles termination
       → Column (λ j. j .worth) (t .jobs) worth → Column (λ j. j .request) (t .jobs) request
-      → Stage t (r .fates) (r .waits)
+      → Stage t fates waits

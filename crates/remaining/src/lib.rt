@@ -1,15 +1,12 @@
 // Steps 1 and 2 of "From jobs to a plan" for the whole table: which jobs are taken out, with their fates, and whom each
-// of the others waits for.
+// of the others waits for. What they find is put into lent columns, at the jobs' places: a column handed back would be copied.
 use chains::RESOURCES;
-use chains::holders;
 use chains::late;
 use chains::leaves_ring;
 use chains::waits_for;
 use columns::Terms;
 use rules::FATE_DEADLOCK;
 use rules::FATE_LATE;
-use rules::Hold;
-use rules::MOST_HOLDS;
 use rules::MOST_JOBS;
 use rules::NO_FATE;
 ghost use mathlib.Core.Bool.{cond, not};
@@ -24,12 +21,6 @@ ghost use Rattle.remaining.specs.Promises.{Stageable, Staged, WaitsColum
 ghost use Rattle.rules.specs.Plan.{endsBy, fateLate};
 ghost use Rattle.rules.specs.TableText.{mostCycles, mostHolds, mostJobs, mostWorth};
 
-// A fate for each job taken out, 0 for the others, and whom each job waits for among the others, by its place.
-pub struct Left {
-    pub fates: [u64; MOST_JOBS],
-    pub waits: [u64; MOST_JOBS],
-}
-
 // Step 1, "A job with now + its run time at top speed > termination is taken out (fate 2)": 0 for one that remains.
 fn fate_if_late(clock: u64, mhz: u64, cycles: u64, termination: u64) -> u64
     requires { ⌜ Comparable clock mhz cycles termination ⌝ }
@@ -43,43 +34,41 @@ fn fate_if_late(clock: u64, mhz: u64, cycles: u64, termination: u64) -> u64
 
 // Step 1, "Late alone": fate 2 at the place of each job that is late.
 fn late_fates<'a>(
+    fates: &mut [u64; MOST_JOBS],
     cycles: &'a [u64; MOST_JOBS],
     termination: &'a [u64; MOST_JOBS],
     terms: Terms,
-) -> [u64; MOST_JOBS]
-    requires { ⌜ RunsInRange (now cycles) (now termination) × TermsInRange terms ⌝ }
-    ensures { λ r. ⌜ LateFates (now (cycles .entry)) (now (termination .entry)) terms r ⌝ }
+)
+    requires { ⌜ (length (now fates) ≡ mostJobs) × RunsInRange (now cycles) (now termination) × TermsInRange terms ⌝ }
+    ensures { λ _. ⌜ LateFates (now (cycles .entry)) (now (termination .entry)) terms (now (fates .exit)) ⌝ }
 {
     let count = terms.job_count;
-    let mut fates = [NO_FATE; MOST_JOBS];
     let mut i = 0;
     while i < count {
         let fate = fate_if_late(terms.clock, terms.mhz, cycles[i], termination[i]);
         fates[i] = fate;
         i += 1;
     }
-    fates
 }
 
 // Step 2, "A job waits for the remaining job that holds the resource it requests": for each job, those of fate 0
 // remaining.
 fn waits_column<'a>(
+    waits: &mut [u64; MOST_JOBS],
     request: &'a [u64; MOST_JOBS],
     holder_at: &'a [u64; RESOURCES],
-    fates: &'a [u64; MOST_JOBS],
+    fates: &[u64; MOST_JOBS],
     job_count: usize,
-) -> [u64; MOST_JOBS]
-    requires { ⌜ («job_count» ≤ mostJobs) × AtMost mostHolds (now request) ⌝ }
-    ensures { λ r. ⌜ WaitsColumn (now (request .entry)) (now («holder_at» .entry)) (now (fates .entry)) «job_count» r ⌝ }
+)
+    requires { ⌜ (length (now waits) ≡ mostJobs) × («job_count» ≤ mostJobs) × AtMost mostHolds (now request) ⌝ }
+    ensures { λ _. ⌜ WaitsColumn (now (request .entry)) (now («holder_at» .entry)) (now (fates .entry)) «job_count» (now (waits .exit)) ⌝ }
 {
-    let mut waits = [0; MOST_JOBS];
     let mut i = 0;
     while i < job_count {
         let holder = waits_for(request, holder_at, fates, i);
         waits[i] = holder;
         i += 1;
     }
-    waits
 }
 
 // Step 2, "A job waits for the remaining job": a mark, 1, at the place of each job that some job waits for.
@@ -124,52 +113,46 @@ fn ring_fate<'a>(
     NO_FATE
 }
 
-// Step 2, "On each ring": the fates of step 1, with 3 at the place of each job that leaves its ring. Who is awaited is
-// marked in the column of the fates itself: each mark is read once, and the fate is stored over it.
+// Step 2, "On each ring": to the fates of step 1, 3 at the place of each job that leaves its ring.
 fn ring_fates<'a>(
-    late: &'a [u64; MOST_JOBS],
+    fates: &mut [u64; MOST_JOBS],
     waits: &'a [u64; MOST_JOBS],
     number: &'a [u64; MOST_JOBS],
     worth: &'a [u64; MOST_JOBS],
     cycles: &'a [u64; MOST_JOBS],
     job_count: usize,
-) -> [u64; MOST_JOBS]
-    requires { ⌜ («job_count» ≤ mostJobs) × AtMost mostWorth (now worth) × AtMost mostCycles (now cycles) ⌝ }
-    ensures { λ r. ⌜ RingFates (now (late .entry)) (now (waits .entry)) (now (number .entry)) (now (worth .entry)) (now (cycles .entry)) «job_count» r ⌝ }
+)
+    requires { ⌜ (length (now fates) ≡ mostJobs) × («job_count» ≤ mostJobs) × AtMost mostWorth (now worth) × AtMost mostCycles (now cycles) ⌝ }
+    ensures { λ _. ⌜ RingFates (now (fates .entry)) (now (waits .entry)) (now (number .entry)) (now (worth .entry)) (now (cycles .entry)) «job_count» (now (fates .exit)) ⌝ }
 {
-    let mut fates = [NO_FATE; MOST_JOBS];
-    mark_awaited(&mut fates, waits, job_count);
+    let mut marks = [0; MOST_JOBS];
+    mark_awaited(&mut marks, waits, job_count);
     let mut i = 0;
     while i < job_count {
-        let fate = ring_fate(late[i], fates[i], i, waits, number, worth, cycles);
+        let fate = ring_fate(fates[i], marks[i], i, waits, number, worth, cycles);
         fates[i] = fate;
         i += 1;
     }
-    fates
 }
 
-// Steps 1 and 2. Whom a job waits for is looked up twice: among the timely, to find the rings, and among those that
-// step 2 leaves.
+// Steps 1 and 2: a fate for each job taken out, 0 for the others, and whom each job waits for among the others. It is looked up
+// twice: among the timely, to find the rings, and among those that step 2 leaves.
 pub fn take_out<'a>(
-    holds: [Hold; MOST_HOLDS],
-    hold_count: usize,
+    fates: &mut [u64; MOST_JOBS],
+    waits: &mut [u64; MOST_JOBS],
+    holder_at: &'a [u64; RESOURCES],
     number: &'a [u64; MOST_JOBS],
     cycles: &'a [u64; MOST_JOBS],
     worth: &'a [u64; MOST_JOBS],
     termination: &'a [u64; MOST_JOBS],
     request: &'a [u64; MOST_JOBS],
     terms: Terms,
-) -> Left
-    requires { ⌜ Stageable holds «hold_count» (now cycles) (now worth) (now termination) (now request) terms ⌝ }
-    ensures { λ r. ⌜ Staged holds «hold_count» (now (number .entry)) (now (cycles .entry)) (now (worth .entry)) (now (termination .entry)) (now (request .entry)) terms r ⌝ }
+)
+    requires { ⌜ Stageable (now fates) (now waits) (now cycles) (now worth) (now termination) (now request) terms ⌝ }
+    ensures { λ _. ⌜ Staged (now («holder_at» .entry)) (now (number .entry)) (now (cycles .entry)) (now (worth .entry)) (now (termination .entry)) (now (request .entry)) terms (now (fates .exit)) (now (waits .exit)) ⌝ }
 {
-    let late = late_fates(cycles, termination, terms);
-    let holder_at = holders(holds, hold_count, number, terms.job_count);
-    let timely_waits = waits_column(request, &holder_at, &late, terms.job_count);
-    let fates = ring_fates(&late, &timely_waits, number, worth, cycles, terms.job_count);
-    let waits = waits_column(request, &holder_at, &fates, terms.job_count);
-    Left {
-        fates: fates,
-        waits: waits,
-    }
+    late_fates(fates, cycles, termination, terms);
+    waits_column(waits, request, holder_at, fates, terms.job_count);
+    ring_fates(fates, waits, number, worth, cycles, terms.job_count);
+    waits_column(waits, request, holder_at, fates, terms.job_count);
 }

@@ -5,6 +5,7 @@ use plans::terms_of;
 use reader::read;
 use records::budget_in_range;
 use rules::MOST_JOBS;
+use rules::NO_FATE;
 use rules::Refusal;
 use rules::Table;
 use rules::Verdict;
@@ -69,7 +70,11 @@ fn rows_of(table: Table, budget: u64, rows: &mut [u64; MOST_ROW_NUMBERS]) -> usi
     );
     let mut order = [0; MOST_JOBS];
     let mut rooms = [0; MOST_JOBS];
+    let mut places = [0; MOST_JOBS];
+    let mut fates = [NO_FATE; MOST_JOBS];
     let course = course_of(
+        &mut places,
+        &mut fates,
         holds,
         table.hold_count,
         &columns.number,
@@ -82,7 +87,6 @@ fn rows_of(table: Table, budget: u64, rows: &mut [u64; MOST_ROW_NUMBERS]) -> usi
         &mut order,
         &mut rooms,
     );
-    let fates = course.fates;
     room_rows(course.turns, &order, &rooms, &columns.number, &fates, rows)
 }
 

@@ -29,26 +29,27 @@ module _ (holds : List Hold) (count : ℕ) (l : count ≤ length holds) where
       ∙ rw (e, getD-take count holds (i - 1) noHold (omega arith))
 
 abbrev Inv-loop : tie.InvT-loop
-Inv-loop hold-count numbers job-count holds holder-at₀ i₀ holder-at i =
+Inv-loop holder-at₀ hold-count numbers job-count holds i₀ holder-at i =
     (i ≤ hold-count)
     × (length holder-at ≡ mostResources)
     × ((js : List Job) → length js ≡ job-count → Rising (λ j. j .number) js → Column (λ j. j .number) js numbers
     → HolderAt js (drop i (take hold-count holds)) holder-at)
 
 abbrev μ-loop : tie.MeasureT-loop
-μ-loop hold-count numbers job-count holds holder-at₀ i₀ holder-at i = i
+μ-loop holder-at₀ hold-count numbers job-count holds i₀ holder-at i = i
 
-places-long : (c : tie.Start Inv-loop μ-loop) → length (c .args .t1) ≡ mostHolds
+places-long : (c : tie.Start Inv-loop μ-loop) → length (c .args .t2) ≡ mostHolds
 places-long c = search needs
 
 loop-holds : tie.Need-loop-holds Inv-loop μ-loop
-loop-holds c = (
-  omega arith,
-  refl,
-  λ js long rising number-of.
-      rw (no-line-left (c .args .t1) (c .args .hold-count) (omega (arith, places-long c, c .pre .few-holds)))
-      (no-line js (omega (arith, c .pre .few-jobs))),
-)
+loop-holds c =
+    rw (c .pre .0) (
+      omega arith,
+      refl,
+      λ js long rising number-of.
+          rw (no-line-left (c .args .t2) (c .args .hold-count) (omega (arith, places-long c, c .pre .1 .few-holds)))
+          (no-line js (omega (arith, c .pre .1 .few-jobs))),
+    )
 
 sub-i : tie.Need-sub-i Inv-loop μ-loop
 sub-i c = search needs
@@ -65,12 +66,12 @@ place-of-requires c κs = search needs
 mul-holder-at : tie.Need-mul-holder-at Inv-loop μ-loop
 mul-holder-at c =
     let start = c .before .before .before .before in
-    omega (arith, start .pre .resources-small (c .before .before .before .loop .i - 1) (omega arith))
+    omega (arith, start .pre .1 .resources-small (c .before .before .before .loop .i - 1) (omega arith))
 
-array-write-holder-at : tie.Need-array-write-holder-at Inv-loop μ-loop
-array-write-holder-at c =
+element-write-holder-at : tie.Need-element-write-holder-at Inv-loop μ-loop
+element-write-holder-at c =
     let start = c .before .before .before .before in
-    omega (arith, start .pre .resources-small (c .before .before .before .loop .i - 1) (omega arith))
+    omega (arith, start .pre .1 .resources-small (c .before .before .before .loop .i - 1) (omega arith))
 
 loop-less : tie.Need-loop-less Inv-loop μ-loop
 loop-less c = search needs
@@ -79,15 +80,15 @@ loop-again : tie.Need-loop-again Inv-loop μ-loop
 loop-again c =
     let start = c .before .before .before .before in
     let loop = c .before .before .before .loop in
-    let hold = getD (start .args .t1) (loop .i - 1) noHold in
-    let small = start .pre .resources-small (loop .i - 1) (omega arith) in (
+    let hold = getD (start .args .t2) (loop .i - 1) noHold in
+    let small = start .pre .1 .resources-small (loop .i - 1) (omega arith) in (
       omega arith,
       rw length-set (loop .inv .1),
       λ js long rising number-of.
           rw
-          (line-before (start .args .t1) (start .args .hold-count)
-          (omega (arith, places-long start, start .pre .few-holds)) (loop .i) (omega arith) (omega arith))
-          (one-line-more js hold (drop (loop .i) (take (start .args .hold-count) (start .args .t1))) (loop .holder-at)
+          (line-before (start .args .t2) (start .args .hold-count)
+          (omega (arith, places-long start, start .pre .1 .few-holds)) (loop .i) (omega arith) (omega arith))
+          (one-line-more js hold (drop (loop .i) (take (start .args .hold-count) (start .args .t2))) (loop .holder-at)
           (c .place-of .result) (loop .inv .1) small
           (c .place-of .ensures .place js long rising number-of hold refl) (c .place-of .ensures .place-or-nobody js long)
           (loop .inv .2 js long rising number-of)),
@@ -115,7 +116,7 @@ holders-spec =
     array-copy-out-hold
     place-of-requires
     mul-holder-at
-    array-write-holder-at
+    element-write-holder-at
     loop-less
     loop-again
     returns)

@@ -15,8 +15,8 @@ use Rattle.listing.proofs.Listed.{decided-text, lines-of-plan}
 use Rattle.listing.specs.Promises.{Finishable}
 use Rattle.listing.specs.Texts.{planText}
 use Rattle.plans.proofs.Deciding.{by-its-parts, decided-beside, jobs-counted}
+use Rattle.plans.specs.Courses.{DecisionLeft, decisionLeft}
 use Rattle.plans.specs.Promises.{DecidedAs}
-use Rattle.plans.specs.declared.Decided.{Decided}
 use Rattle.rules.specs.Listing.{linesFor}
 use Rattle.rules.specs.Refusals.{taken, written}
 use Rattle.rules.specs.TableText.{Records, mostCycles, mostJobs, mostTime, recordsOf, withBudget}
@@ -35,7 +35,7 @@ clock-of : (table : Table) → table .clock ≡ recordsOf table .clock
 unfolding recordsOf
 clock-of table = refl
 
-finishable : (t : Records) (d : Decided) (columns : Columns)
+finishable : (t : Records) (d : DecisionLeft) (columns : Columns)
     → length (take (d .count) (d .places)) ≡ d .count → Valid t → DecidedAs t d → AtMost mostCycles (columns .cycles)
     → (clock : ℕ) → clock ≤ mostTime → Finishable (take (d .count) (d .places)) (columns .cycles) clock (d .speed .mhz)
 finishable t d columns long valid decided cycles-small clock small =
@@ -55,38 +55,39 @@ finishable t d columns long valid decided cycles-small clock small =
 all-jobs : (c : tie.Start) → length (c .args .table .jobs) ≡ mostJobs
 all-jobs c = sym (length-map (c .args .table .jobs) _) ∙ c .good .0 .1 .1 .1 .1 .1 .1 .1 .1 .0 .1 .0 .1
 
-all-places : (c : tie.After-decide) → length (c .decide .result .places) ≡ mostJobs
-all-places c = search needs
+-- what is decided, and the columns in which it is told
+abbrev decision : tie.After-decide → DecisionLeft
+decision c = decisionLeft (c .decide .last .0) (c .decide .last .1 .0) (c .decide .result)
 
 -- what stood when the columns were known, and at the start
 abbrev columned : tie.After-decide → tie.After-columns-of
-columned c = c .before .before .before .before .before .before .before .before .before .before .before .before
+columned c = c .before .before .before .before .before .before .before .before .before .before .before .before .before .before
 
 abbrev begun : tie.After-decide → tie.Start
 begun c = columned c .before .before
 
 -- what was decided, of the table with the budget beside it
 decided-as : (c : tie.After-decide)
-    → DecidedAs (withBudget (recordsOf (begun c .args .table)) (begun c .args .budget)) (c .decide .result)
+    → DecidedAs (withBudget (recordsOf (begun c .args .table)) (begun c .args .budget)) (decision c)
 decided-as c =
     let start = begun c in
     let columns = columned c .columns-of in
-    decided-beside (start .args .table) (start .args .budget) (c .decide .result)
-    (c .decide .ensures .0 (start .args .table .jobs)
+    decided-beside (start .args .table) (start .args .budget) (decision c)
+    (c .decide .ensures .0 .1 (start .args .table .jobs)
     (by-its-parts (start .args .table) (start .args .budget) (columns .result) (start .pre) (all-jobs start) (columns .ensures)))
 
 planned-length : (c : tie.After-decide)
-    → length (take (c .decide .result .count) (c .decide .result .places)) ≡ c .decide .result .count
+    → length (take (decision c .count) (decision c .places)) ≡ decision c .count
 planned-length c =
-    length-take-le (c .decide .result .count) (c .decide .result .places)
-    (omega (arith, all-places c, decided-as c .placed .few))
+    length-take-le (decision c .count) (decision c .places)
+    (omega (arith, c .decide .ensures .0 .0 .places-whole, decided-as c .placed .few))
 
 -- the places before the X lines' numbers are told, back to the start
 abbrev ordered : tie.After-fate-rows → tie.After-order-rows
 ordered c = c .before .before .before .before .before
 
 abbrev decided : tie.After-fate-rows → tie.After-decide
-decided c = ordered c .before .before .before .before .before .before .before .before .before .before
+decided c = ordered c .before .before .before .before .before .before .before .before
 
 abbrev started : tie.After-fate-rows → tie.Start
 started c = begun (decided c)
@@ -105,12 +106,12 @@ others-length c = length-take-le _ _ (omega (arith, c .fate-rows .ensures .few, 
 
 -- the lines of the numbers told are the plan's
 plan-told : (c : tie.After-fate-rows)
-    → let d = decided c .decide .result in
+    → let d = decision (decided c) in
     let t = withBudget (recordsOf (started c .args .table)) (started c .args .budget) in
     planText (d .speed .mhz) (d .energy) (d .count) (orders (ordered c)) (others c) ≡ linesFor (taken t)
 plan-told c =
     let order-rows = ordered c .order-rows in
-    let d = decided c .decide .result in
+    let d = decision (decided c) in
     let told = decided-as (decided c) in
     let columns = columned (decided c) .columns-of in
     let table = started c .args .table in
@@ -135,28 +136,32 @@ slice-aggregate-decide-2 c = search needs
 
 decide-requires : tie.Need-decide-requires
 decide-requires c κs =
-    let columns-known = c .before .before .before .before .before .before .before .before .before .before .before in
+    let columns-known = c .before .before .before .before .before .before .before .before .before .before .before .before .before in
     let start = columns-known .before .before in
     let columns = columns-known .columns-of in (
-      start .args .table .jobs,
-      by-its-parts (start .args .table) (start .args .budget) (columns .result) (start .pre) (all-jobs start) (columns .ensures),
+      record { places-whole = refl; fates-whole = refl },
+      (
+        start .args .table .jobs,
+        by-its-parts (start .args .table) (start .args .budget) (columns .result) (start .pre) (all-jobs start) (columns .ensures),
+      ),
     )
 
 array-share-prefix-places : tie.Need-array-share-prefix-places
 array-share-prefix-places c =
-    let decided = c .before .before .before .before in omega (arith, all-places decided, decided-as decided .placed .few)
+    let decided = c .before .before in
+    omega (arith, decided .decide .ensures .0 .0 .places-whole, decided-as decided .placed .few)
 
 slice-aggregate-order-rows : tie.Need-slice-aggregate-order-rows
-slice-aggregate-order-rows c = sym (planned-length (c .before .before .before .before .before))
+slice-aggregate-order-rows c = sym (planned-length (c .before .before .before))
 
 order-rows-requires : tie.Need-order-rows-requires
 order-rows-requires c κs =
-    let decided = c .before .before .before .before .before .before .before .before .before in
+    let decided = c .before .before .before .before .before .before .before in
     let columns = columned decided .columns-of in
     let start = begun decided in
     let table = start .args .table in
     let valid = start .pre .valid in (
-      finishable (withBudget (recordsOf table) (start .args .budget)) (decided .decide .result) (columns .result) (planned-length decided) valid
+      finishable (withBudget (recordsOf table) (start .args .budget)) (decision decided) (columns .result) (planned-length decided) valid
           (decided-as decided) (columns-in-range (recordsOf table .jobs) (columns .result)
           (valid .job-ranges) (columns .ensures) .cycles) (table .clock) (clock-small table (start .args .budget) valid),
       refl,
@@ -165,7 +170,7 @@ order-rows-requires c κs =
 fate-rows-requires : tie.Need-fate-rows-requires
 fate-rows-requires c κs =
     let listed = c .before .before .before .before in
-    let start = begun (listed .before .before .before .before .before .before .before .before .before .before) in
+    let start = begun (listed .before .before .before .before .before .before .before .before) in
     (start .pre .few-jobs, refl)
 
 array-share-prefix-orders : tie.Need-array-share-prefix-orders

@@ -5,22 +5,15 @@ use native.Mathlib.Omega.{arith}
 use lib.ListN.{length, take}
 use lib.Seq.{length-take-le}
 use Rattle.plans.proofs.Concluding.{steps-8-and-9}
-use Rattle.rules.specs.TableText.{mostJobs}
-use borrow.Author.Needs.{needs}
+use Rattle.plans.specs.Courses.{courseLeft}
 use Rattle.plans.proofs.conclude.Statement.{statement}
 use Rattle.plans.proofs.conclude.Tie as tie
 
-all-places : (c : tie.Start) → length (c .args .course .places) ≡ mostJobs
-all-places c = search needs
-
 planned-length : (c : tie.Start)
-    → length (take (c .args .course .totals .count) (c .args .course .places)) ≡ c .args .course .totals .count
+    → length (take (c .args .course .totals .count) (c .args .places .now)) ≡ c .args .course .totals .count
 planned-length c =
-    length-take-le (c .args .course .totals .count) (c .args .course .places) (omega (arith, all-places c, c .pre .placed .few))
-
-array-share-prefix-places : tie.Need-array-share-prefix-places
-array-share-prefix-places c =
-    omega (arith, all-places (c .before .before), c .before .before .pre .placed .few)
+    length-take-le (c .args .course .totals .count) (c .args .places .now)
+    (omega (arith, c .pre .whole .places-whole, c .pre .placed .few))
 
 slice-aggregate-planned : tie.Need-slice-aggregate-planned
 slice-aggregate-planned c = sym (planned-length (c .before .before .before))
@@ -40,22 +33,23 @@ choose-speed-requires c κs =
     )
 
 mark-planned-requires : tie.Need-mark-planned-requires
-mark-planned-requires c κs = search needs
+mark-planned-requires c κs =
+    let pre = c .before .before .before .before .before .before .pre in (pre .whole .fates-whole, pre .placed .below)
 
 returns : tie.Need-returns
 returns c =
     let chosen = c .before .before .before in
     let start = chosen .before .before .before .before in
     let args = start .args in
-    steps-8-and-9 (args .speeds) (args .speed-count) (args .cycles .now) (args .termination .now) (args .course)
-    (args .terms) (chosen .choose-speed .result) (c .mark-planned .result) (start .pre .placed) (start .pre .totalled)
+    steps-8-and-9 (args .speeds) (args .speed-count) (args .cycles .now) (args .termination .now)
+    (courseLeft (args .places .now) (args .fates .now) (args .course .totals) (args .course .turns)) (args .terms)
+    (chosen .choose-speed .result) (c .mark-planned .last .0) (start .pre .whole) (start .pre .placed) (start .pre .totalled)
     (chosen .choose-speed .ensures) (c .mark-planned .ensures)
 
 pub conclude-spec : {M : Type 1} → statement M
 conclude-spec =
     tie.close
     (tie.spec
-    array-share-prefix-places
     slice-aggregate-planned
     choose-speed-requires
     mark-planned-requires

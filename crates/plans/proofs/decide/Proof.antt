@@ -6,8 +6,9 @@ use Prim.Native.Nat.{_≤_}
 use native.Mathlib.Omega.{arith}
 use lib.ListN.{length, take}
 use Rattle.plans.proofs.Deciding.{same-terms, some-speed, table-concludable, table-runnable, terms-of-table}
-use Rattle.plans.specs.Promises.{DecidedAs, PlannableBy, assembled, besides}
-use Rattle.columns.specs.Columns.{TermsOf}
+use Rattle.plans.specs.Courses.{CourseLeft, courseLeft, decisionLeft}
+use Rattle.plans.specs.Promises.{DecidedAs, PlannableBy, assembled}
+use Rattle.columns.specs.Columns.{TermsOf, besides}
 use Rattle.columns.specs.declared.Columns.{Columns}
 use Rattle.rules.specs.TableText.{mostHolds, mostSpeeds, recordsOf}
 use Rattle.rules.specs.declared.Job.{Job}
@@ -31,7 +32,7 @@ tableFor c jobs =
     (c .args .job-count) jobs
 
 abbrev table : tie.Start → Table
-table c = tableFor c (c .pre .0)
+table c = tableFor c (c .pre .1 .0)
 
 abbrev columns : tie.Start → Columns
 columns c =
@@ -45,38 +46,44 @@ all-holds : (c : tie.Start) → length (c .args .holds) ≡ mostHolds
 all-holds c = search needs
 
 speeds-there : (c : tie.Start) → 1 ≤ c .args .speed-count
-speeds-there c = some-speed (table c) (c .args .budget) (c .pre .1 .plannable) (all-speeds c)
+speeds-there c = some-speed (table c) (c .args .budget) (c .pre .1 .1 .plannable) (all-speeds c)
 
 terms-of-requires : tie.Need-terms-of-requires
-terms-of-requires c κs = let start = c .before .before in (speeds-there start, start .pre .1 .plannable .few-speeds)
+terms-of-requires c κs = let start = c .before .before in (speeds-there start, start .pre .1 .1 .plannable .few-speeds)
 
 -- the terms, and what stood before them
 abbrev begun : tie.After-course-of → tie.After-terms-of
-begun c = c .before .before .before
+begun c = c .before .before .before .before .before
 
 abbrev started : tie.After-course-of → tie.Start
 started c = begun c .before .before .before
 
 course-of-requires : tie.Need-course-of-requires
 course-of-requires c κs =
-    let terms = c .before .before in
-    let start = terms .before .before .before in
-    rw (terms .terms-of .ensures)
-    (table-runnable (table start) (start .args .budget) (start .pre .1 .plannable) (all-speeds start) (columns start)
-    (start .pre .1 .columns-of) (all-holds start) (start .pre .1 .whole))
+    let terms = c .before .before .before .before in
+    let start = terms .before .before .before in (
+      start .pre .0,
+      rw (terms .terms-of .ensures)
+          (table-runnable (table start) (start .args .budget) (start .pre .1 .1 .plannable) (all-speeds start) (columns start)
+          (start .pre .1 .1 .columns-of) (all-holds start) (start .pre .1 .1 .whole)),
+    )
+
+-- what the course left
+abbrev leftBy : tie.After-course-of → CourseLeft
+leftBy c = courseLeft (c .course-of .last .0) (c .course-of .last .1 .0) (c .course-of .result .totals) (c .course-of .result .turns)
 
 conclude-requires : tie.Need-conclude-requires
 conclude-requires c κs =
-    let ran = c .before .before .before .before in
+    let ran = c .before .before .before .before .before .before in
     let start = started ran in
     rw (begun ran .terms-of .ensures)
-    (table-concludable (table start) (start .args .budget) (start .pre .1 .plannable) (all-speeds start) (columns start)
-    (start .pre .1 .columns-of) (ran .course-of .result) (ran .course-of .ensures .0 .placed)
+    (table-concludable (table start) (start .args .budget) (start .pre .1 .1 .plannable) (all-speeds start) (columns start)
+    (start .pre .1 .1 .columns-of) (leftBy ran) (ran .course-of .ensures .0 .whole) (ran .course-of .ensures .0 .placed)
     (rw (begun ran .terms-of .ensures) at (ran .course-of .ensures .0 .totalled)))
 
 -- the course that the decision is made of
 abbrev course : tie.After-conclude → tie.After-course-of
-course c = c .before .before .before .before .before
+course c = c .before .before .before .before .before .before .before
 
 same-length : tie.Need-same-length
 same-length c = course c .course-of .ensures .1 .order-whole
@@ -95,7 +102,8 @@ terms-of-parts c jobs by =
 
 decided : (c : tie.After-conclude) (jobs : List Job)
     → PlannableBy (tableFor (started (course c)) jobs) (columns (started (course c)))
-    → DecidedAs (recordsOf (tableFor (started (course c)) jobs)) (c .conclude .result)
+    → DecidedAs (recordsOf (tableFor (started (course c)) jobs))
+    (decisionLeft (course c .course-of .last .0) (c .conclude .last .0) (c .conclude .result))
 unfolding recordsOf
 decided c jobs by =
     let ran = course c in
@@ -116,7 +124,7 @@ unfolding recordsOf
 returns c =
     let ran = course c in
     let counted = c .conclude .ensures .turns-counted in (
-      decided c,
+      (c .conclude .ensures .whole, decided c),
       record {
         few = omega (arith, counted, ran .course-of .ensures .1 .few);
         order-whole = ran .course-of .ensures .1 .order-whole;

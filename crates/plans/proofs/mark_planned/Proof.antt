@@ -12,23 +12,20 @@ use Rattle.plans.proofs.mark_planned.Statement.{statement}
 use Rattle.plans.proofs.mark_planned.Tie as tie
 
 abbrev Inv-loop : tie.InvT-loop
-Inv-loop places marked₀ i₀ marked i =
+Inv-loop fates₀ places i₀ fates i =
     (i ≤ length places)
-    × (length marked ≡ mostJobs)
-    × ((k : ℕ) → markedAt (drop i places) fatePlanned marked k ≡ markedAt places fatePlanned marked₀ k)
+    × (length fates ≡ mostJobs)
+    × ((k : ℕ) → markedAt (drop i places) fatePlanned fates k ≡ markedAt places fatePlanned fates₀ k)
 
 abbrev μ-loop : tie.MeasureT-loop
-μ-loop places marked₀ i₀ marked i = length places - i
-
-all-places : (c : tie.Start Inv-loop μ-loop) → length (c .args .fates) ≡ mostJobs
-all-places c = search needs
+μ-loop fates₀ places i₀ fates i = length places - i
 
 place-below : (c : tie.In-loop Inv-loop μ-loop)
     → getD (c .before .before .args .places .now) (c .before .loop .i) 0 < mostJobs
-place-below c = c .before .before .pre (c .before .loop .i) (omega arith)
+place-below c = c .before .before .pre .1 (c .before .loop .i) (omega arith)
 
 loop-holds : tie.Need-loop-holds Inv-loop μ-loop
-loop-holds c = (omega arith, all-places c, λ k. refl)
+loop-holds c = (omega arith, c .pre .0, λ k. refl)
 
 mul-place : tie.Need-mul-place Inv-loop μ-loop
 mul-place c = search needs
@@ -36,11 +33,11 @@ mul-place c = search needs
 shared-slice-read-place : tie.Need-shared-slice-read-place Inv-loop μ-loop
 shared-slice-read-place c = search needs
 
-mul-marked : tie.Need-mul-marked Inv-loop μ-loop
-mul-marked c = omega (arith, place-below (c .before))
+mul-fates : tie.Need-mul-fates Inv-loop μ-loop
+mul-fates c = omega (arith, place-below (c .before))
 
-array-write-marked : tie.Need-array-write-marked Inv-loop μ-loop
-array-write-marked c = omega (arith, place-below (c .before), c .before .before .loop .inv .1)
+element-write-fates : tie.Need-element-write-fates Inv-loop μ-loop
+element-write-fates c = omega (arith, place-below (c .before), c .before .before .loop .inv .1)
 
 add-i : tie.Need-add-i Inv-loop μ-loop
 add-i c = search needs
@@ -54,9 +51,9 @@ loop-again c =
     let loop = c .before .before .loop in
     let places = start .args .places .now in (
       omega arith,
-      length-set (loop .marked) (getD places (loop .i) 0) 1 ∙ loop .inv .1,
+      length-set (loop .fates) (getD places (loop .i) 0) 1 ∙ loop .inv .1,
       λ k.
-          one-more-marked places (loop .marked) fatePlanned (loop .i) k (omega arith)
+          one-more-marked places (loop .fates) fatePlanned (loop .i) k (omega arith)
           (omega (arith, loop .inv .1, place-below (c .before)))
           ∙ loop .inv .2 k,
     )
@@ -66,7 +63,8 @@ returns c =
     let places = c .before .before .args .places .now in
     let loop = c .before .loop in
     record {
-      marked = λ i h. sym (all-marked places (loop .marked) fatePlanned (loop .i) i (omega arith)) ∙ loop .inv .2 i;
+      whole = loop .inv .1;
+      marked = λ i h. sym (all-marked places (loop .fates) fatePlanned (loop .i) i (omega arith)) ∙ loop .inv .2 i;
     }
 
 pub mark-planned-spec : {M : Type 1} → statement M
@@ -78,8 +76,8 @@ mark-planned-spec =
     loop-holds
     mul-place
     shared-slice-read-place
-    mul-marked
-    array-write-marked
+    mul-fates
+    element-write-fates
     add-i
     loop-less
     loop-again

@@ -1,7 +1,7 @@
 -- `plans::rooms_of` meets its contract: the turns of the table are noted while its plan is decided, the places as the numbers of
 -- their jobs, and the room at the end is reckoned from the plan record's total. Assumes nothing.
 use mathlib.Core.List.{List}
-use mathlib.Core.Path.{_≡_, sym, _∙_}
+use mathlib.Core.Path.{_≡_, refl, sym, _∙_}
 use Prim.Native.Nat.{ℕ, _*_, _-_, _≤_}
 use native.Mathlib.Omega.{arith}
 use lib.ListN.{length, length-map, take}
@@ -10,6 +10,7 @@ use Rattle.columns.specs.Columns.{TermsOf}
 use Rattle.columns.specs.declared.Terms.{Terms}
 use Rattle.plans.proofs.Deciding.{by-its-parts, decided-beside, noted-beside, same-terms, some-speed, terms-of-table}
 use Rattle.plans.proofs.Leaving.{rooms-left}
+use Rattle.plans.specs.Courses.{decisionLeft}
 use Rattle.plans.specs.Promises.{DecidedAs, PlannableBy, RoomsNoted}
 use Rattle.rules.specs.Plan.{cyclesOf, energyAt, planFrom, planOf}
 use Rattle.rules.specs.Rooms.{lastRoom, roomLeft}
@@ -39,7 +40,7 @@ all-jobs c = sym (length-map (c .args .table .jobs) _) ∙ c .good .0 .1 .1 .1 .
 
 -- what stood when the columns were known, and at the start
 abbrev columned : tie.After-decide → tie.After-columns-of
-columned c = c .before .before .before .before .before .before .before .before .before .before .before .before
+columned c = c .before .before .before .before .before .before .before .before .before .before .before .before .before .before
 
 abbrev started : tie.After-columns-of → tie.Start
 started c = c .before .before .before
@@ -50,10 +51,10 @@ records c = withBudget (recordsOf (c .args .table)) (c .args .budget)
 
 -- what is noted of its turns
 abbrev orderAfter : tie.After-decide → List ℕ
-orderAfter c = c .decide .last .1 .1 .1 .1 .1 .1 .1 .1 .1 .1 .1 .1 .1 .0
+orderAfter c = c .decide .last .1 .1 .1 .1 .1 .1 .1 .1 .1 .1 .1 .1 .1 .1 .1 .0
 
 abbrev roomsAfter : tie.After-decide → List ℕ
-roomsAfter c = c .decide .last .1 .1 .1 .1 .1 .1 .1 .1 .1 .1 .1 .1 .1 .1 .0
+roomsAfter c = c .decide .last .1 .1 .1 .1 .1 .1 .1 .1 .1 .1 .1 .1 .1 .1 .1 .1 .0
 
 parts : (c : tie.After-columns-of)
     → PlannableBy (tableWithBudget (started c .args .table) (started c .args .budget)) (c .columns-of .result)
@@ -69,11 +70,12 @@ noted c =
     noted-beside (start .args .table) (start .args .budget) (c .decide .result .turns) (orderAfter c) (roomsAfter c)
     (c .decide .ensures .1 .noted (start .args .table .jobs) (parts (columned c)) (omega arith) (start .pre .2))
 
-as-decided : (c : tie.After-decide) → DecidedAs (records (started (columned c))) (c .decide .result)
+as-decided : (c : tie.After-decide)
+    → DecidedAs (records (started (columned c))) (decisionLeft (c .decide .last .0) (c .decide .last .1 .0) (c .decide .result))
 as-decided c =
     let start = started (columned c) in
-    decided-beside (start .args .table) (start .args .budget) (c .decide .result)
-    (c .decide .ensures .0 (start .args .table .jobs) (parts (columned c)))
+    decided-beside (start .args .table) (start .args .budget)
+    (decisionLeft (c .decide .last .0) (c .decide .last .1 .0) (c .decide .result)) (c .decide .ensures .0 .1 (start .args .table .jobs) (parts (columned c)))
 
 -- what was decided, seen from where both buffers are filled
 abbrev emptied : tie.After-slice-known5 → tie.After-decide
@@ -100,7 +102,8 @@ slice-aggregate-decide c = search needs
 
 decide-requires : tie.Need-decide-requires
 decide-requires c κs =
-    let columns = c .before .before .before .before .before .before .before .before .before .before .before in (started columns .args .table .jobs, parts columns)
+    let columns = c .before .before .before .before .before .before .before .before .before .before .before .before .before in
+    (record { places-whole = refl; fates-whole = refl }, (started columns .args .table .jobs, parts columns))
 
 array-share-prefix-order : tie.Need-array-share-prefix-order
 array-share-prefix-order c =

@@ -12,9 +12,8 @@ use Rattle.judgements.specs.Changes.{mostChanges}
 use Rattle.laws.specs.Pairs.{no-pair}
 use Rattle.plans.proofs.Noting.{nothing-noted, one-more-noted}
 use Rattle.plans.proofs.Taking.{OnCourse, at-end, at-start, jobs-run, one-more-taken, room-by-record, turn-of}
-use Rattle.plans.specs.Courses.{courseBy}
+use Rattle.plans.specs.Courses.{CourseLeft, Turns, courseBy, turnsBy}
 use Rattle.plans.specs.Promises.{CourseBy, Totalled, TurnsNoted, TurnsOf}
-use Rattle.plans.specs.declared.CourseTaken.{CourseTaken}
 use Rattle.rules.specs.Lists.{Rising}
 use Rattle.rules.specs.TableText.{Records, mostJobs}
 use Rattle.trials.specs.Promises.{KeptTrue, PlanStanding, TurnColumns, columnsRead, keptOf, planParts, plannedPlaces}
@@ -23,10 +22,11 @@ use Rattle.plans.proofs.take_turns.Statement.{statement}
 use Rattle.plans.proofs.take_turns.Tie as tie
 
 -- before the first turn nothing is planned
-nothing-standing : PlanStanding (planParts (record { count = 0; cycles = 0 }) (replicate mostJobs 0) (replicate mostJobs notPlanned))
-nothing-standing = record {
+nothing-standing : (places : List ℕ) → length places ≡ mostJobs
+    → PlanStanding (planParts (record { count = 0; cycles = 0 }) places (replicate mostJobs notPlanned))
+nothing-standing places whole = record {
   entries-stand = record {
-    places-length = refl;
+    places-length = whole;
     keys-length = refl;
     few = omega arith;
     below = λ i h. absurd (omega arith);
@@ -47,36 +47,34 @@ nothing-kept cycles deadline = record {
 }
 
 -- after the last all are taken
-all-taken : (t : Records) (order : List ℕ) (n i : ℕ) (keys : List ℕ) (r : CourseTaken) → i ≡ n
+all-taken : (t : Records) (order : List ℕ) (n i : ℕ) (keys : List ℕ) (r : CourseLeft) → i ≡ n
     → Rising (λ j. j .number) (t .jobs)
     → OnCourse t (courseBy t order i) (planParts (r .totals) (r .places) keys) (r .fates) → CourseBy t (courseBy t order n) r
 all-taken t order n i keys r e rising on = rw (sym e) (at-end t (courseBy t order i) r keys rising on)
 
 abbrev Inv-loop : tie.InvT-loop
-Inv-loop over waits critical cycles deadline terms order₀ rooms₀ turns places₀ keys₀ ends₀ latests₀ changed₀ fresh₀ totals₀ fates₀ i₀ order rooms places keys ends latests changed fresh totals fates i =
-    (i ≤ turns .count)
+Inv-loop places₀ fates₀ turns turn-count over waits critical cycles deadline terms order₀ rooms₀ keys₀ ends₀ latests₀ changed₀ fresh₀ totals₀ i₀ places fates order rooms keys ends latests changed fresh totals i =
+    let in-order = turnsBy turns turn-count in
+    (i ≤ turn-count)
     × PlanStanding (planParts totals places keys)
     × (length fates ≡ mostJobs)
-    × ((t : Records) → TurnsOf t turns over (columnsRead waits critical cycles deadline) fates₀ terms
-    → OnCourse t (courseBy t (turns .order) i) (planParts totals places keys) fates)
+    × ((t : Records) → TurnsOf t in-order over (columnsRead waits critical cycles deadline) fates₀ terms
+    → OnCourse t (courseBy t turns i) (planParts totals places keys) fates)
     × Totalled totals places cycles terms
     × (KeptTrue cycles deadline (take (totals .count) places) (keptOf ends latests)
     × (length changed ≡ mostChanges)
     × (length fresh ≡ mostChanges))
-    × TurnsNoted i turns over (columnsRead waits critical cycles deadline) fates₀ terms order₀ rooms₀ order rooms
+    × TurnsNoted i in-order over (columnsRead waits critical cycles deadline) fates₀ terms order₀ rooms₀ order rooms
 
 abbrev μ-loop : tie.MeasureT-loop
-μ-loop over waits critical cycles deadline terms order₀ rooms₀ turns places₀ keys₀ ends₀ latests₀ changed₀ fresh₀ totals₀ fates₀ i₀ order rooms places keys ends latests changed fresh totals fates i =
-    turns .count - i
+μ-loop places₀ fates₀ turns turn-count over waits critical cycles deadline terms order₀ rooms₀ keys₀ ends₀ latests₀ changed₀ fresh₀ totals₀ i₀ places fates order rooms keys ends latests changed fresh totals i =
+    turn-count - i
 
-all-places : (c : tie.Start Inv-loop μ-loop) → length (c .args .so-far) ≡ mostJobs
-all-places c = search needs
+abbrev turnsIn : tie.Start Inv-loop μ-loop → Turns
+turnsIn c = turnsBy (c .args .turns .now) (c .args .turn-count)
 
-all-turns : (c : tie.Start Inv-loop μ-loop) → length (c .args .t1 .order) ≡ mostJobs
-all-turns c = search needs
-
-turns-there : (c : tie.Start Inv-loop μ-loop) → c .args .t1 .count ≤ length (c .args .t1 .order)
-turns-there c = omega (arith, all-turns c, c .pre .few-turns)
+turns-there : (c : tie.Start Inv-loop μ-loop) → c .args .turn-count ≤ length (c .args .turns .now)
+turns-there c = omega (arith, c .pre .1 .order-whole, c .pre .1 .few-turns)
 
 abbrev columns : tie.Start Inv-loop μ-loop → TurnColumns
 columns c =
@@ -87,15 +85,15 @@ abbrev started : tie.In-loop Inv-loop μ-loop → tie.Start Inv-loop μ-loop
 started c = c .before .before .before .before
 
 place-below : (c : tie.In-loop Inv-loop μ-loop)
-    → getD (started c .args .t1 .order) (c .before .loop .i) 0 < mostJobs
+    → getD (started c .args .turns .now) (c .before .loop .i) 0 < mostJobs
 place-below c =
     let start = started c in
-    let turns = start .args .t1 in
+    let turns = turnsIn start in
     let i = c .before .loop .i in
     omega (
       arith,
       getD-take (turns .count) (turns .order) i 0 (c .loop-test .taken),
-      start .pre .below i
+      start .pre .1 .below i
           (omega (arith, length-take-le (turns .count) (turns .order) (turns-there start), c .loop-test .taken)),
     )
 
@@ -104,19 +102,19 @@ loop-holds c =
     let start = c .before .before in
     let args = start .args in (
       omega arith,
-      nothing-standing,
-      all-places start,
-      λ t of. at-start t (args .t1) (args .over .now) (columns start) (args .so-far) (args .terms) of _ _,
+      nothing-standing (args .places .now) (start .pre .0),
+      start .pre .1 .fates-whole,
+      λ t of. at-start t (turnsIn start) (args .over .now) (columns start) (args .fates .now) (args .terms) of _ _,
       record { total-true = refl; within = omega arith },
       (nothing-kept (args .cycles .now) (args .deadline .now), refl, refl),
-      nothing-noted (args .t1) (args .over .now) (columns start) (args .so-far) (args .terms) (args .order .now) (args .rooms .now),
+      nothing-noted (turnsIn start) (args .over .now) (columns start) (args .fates .now) (args .terms) (args .order .now) (args .rooms .now),
     )
 
 mul-place : tie.Need-mul-place Inv-loop μ-loop
-mul-place c = omega (arith, started c .pre .few-turns)
+mul-place c = omega (arith, started c .pre .1 .few-turns)
 
 element-copy-out-place : tie.Need-element-copy-out-place Inv-loop μ-loop
-element-copy-out-place c = omega (arith, started c .pre .few-turns)
+element-copy-out-place c = omega (arith, started c .pre .1 .few-turns)
 
 mul-note-turn : tie.Need-mul-note-turn Inv-loop μ-loop
 mul-note-turn c = omega (arith, place-below (c .before))
@@ -127,7 +125,7 @@ element-copy-out-note-turn c = place-below (c .before)
 turn-requires : tie.Need-turn-requires Inv-loop μ-loop
 turn-requires c κs =
     let inside = c .before .before .before .before .before .before .before .before in
-    let pre = started inside .pre in
+    let pre = started inside .pre .1 in
     let args = started inside .args in
     let loop = inside .before .loop in
     record {
@@ -141,7 +139,7 @@ turn-requires c κs =
       terms-small = pre .terms-small;
       table = pre .table;
       of-table =
-          turn-of (pre .table) (args .t1) (args .over .now) (columns (started inside)) (args .so-far) (args .terms) (pre .of-table)
+          turn-of (pre .table) (turnsIn (started inside)) (args .over .now) (columns (started inside)) (args .fates .now) (args .terms) (pre .of-table)
           (loop .i) (turns-there (started inside)) (inside .loop-test .taken) (planParts (loop .totals) (loop .places) (loop .keys))
           (loop .fates) (loop .inv .3 (pre .table) (pre .of-table));
     }
@@ -153,8 +151,8 @@ in-turn c = c .before .before .before .before .before .before .before .before .b
 mul-fates : tie.Need-mul-fates Inv-loop μ-loop
 mul-fates c = omega (arith, place-below (in-turn c))
 
-array-write-fates : tie.Need-array-write-fates Inv-loop μ-loop
-array-write-fates c = omega (arith, in-turn c .before .loop .inv .2, place-below (in-turn c))
+element-write-fates : tie.Need-element-write-fates Inv-loop μ-loop
+element-write-fates c = omega (arith, in-turn c .before .loop .inv .2, place-below (in-turn c))
 
 -- the record after the turn is within budget
 within-after : (c : tie.After-totals Inv-loop μ-loop)
@@ -165,7 +163,9 @@ note-turn-requires : tie.Need-note-turn-requires Inv-loop μ-loop
 note-turn-requires c κs = within-after (c .before .before)
 
 add-i : tie.Need-add-i Inv-loop μ-loop
-add-i c = search needs
+add-i c =
+    let inside = in-turn (c .before .before .before .before .before .before .before) in
+    omega (arith, inside .loop-test .taken, started inside .pre .1 .few-turns)
 
 loop-less : tie.Need-loop-less Inv-loop μ-loop
 loop-less c = search needs
@@ -178,12 +178,12 @@ loop-again c =
     let start = started inside in
     let loop = inside .before .loop in
     let args = start .args in
-    let place = getD (args .t1 .order) (loop .i) 0 in
+    let place = getD (args .turns .now) (loop .i) 0 in
     let turned = taken .before .turn in
     let plan = planParts (turned .result .totals) (turned .last .0) (turned .last .1 .0) in
-    let next : (t : Records) → TurnsOf t (args .t1) (args .over .now) (columns start) (args .so-far) (args .terms)
-    → OnCourse t (courseBy t (args .t1 .order) (loop .i + 1)) plan (set (loop .fates) place (turned .result .fate)) = λ t of.
-    one-more-taken t (args .t1) (args .over .now) (columns start) (args .so-far) (args .terms) of (loop .i) (turns-there start)
+    let next : (t : Records) → TurnsOf t (turnsIn start) (args .over .now) (columns start) (args .fates .now) (args .terms)
+    → OnCourse t (courseBy t (args .turns .now) (loop .i + 1)) plan (set (loop .fates) place (turned .result .fate)) = λ t of.
+    one-more-taken t (turnsIn start) (args .over .now) (columns start) (args .fates .now) (args .terms) of (loop .i) (turns-there start)
     (inside .loop-test .taken) (planParts (loop .totals) (loop .places) (loop .keys)) (loop .fates) (loop .inv .3 t of) plan
     _ _ _ (turned .result .fate) (omega (arith, loop .inv .2, place-below inside)) (turned .ensures) in (
       omega (arith, inside .loop-test .taken),
@@ -192,12 +192,12 @@ loop-again c =
       next,
       record { total-true = turned .ensures .total-true; within = within-after taken },
       (turned .ensures .kept-true, turned .ensures .changed-length, turned .ensures .fresh-length),
-      one-more-noted (args .t1) (args .over .now) (columns start) (args .so-far) (args .terms) (loop .i) (args .order .now)
+      one-more-noted (turnsIn start) (args .over .now) (columns start) (args .fates .now) (args .terms) (loop .i) (args .order .now)
           (args .rooms .now) (loop .order) (loop .rooms) (loop .inv .6) _
           (λ t of.
-          room-by-record t (courseBy t (args .t1 .order) (loop .i + 1)) (plannedPlaces plan) (args .cycles .now)
+          room-by-record t (courseBy t (args .turns .now) (loop .i + 1)) (plannedPlaces plan) (args .cycles .now)
           (plan .totals .cycles) (args .terms) (of .terms-of) (of .columns-of .cycles-of)
-          (jobs-run t (courseBy t (args .t1 .order) (loop .i + 1)) plan (next t of .plan)) (turned .ensures .total-true))
+          (jobs-run t (courseBy t (args .turns .now) (loop .i + 1)) plan (next t of .plan)) (turned .ensures .total-true))
           _ _ (noted .note-turn .ensures),
     )
 
@@ -211,13 +211,13 @@ returns : tie.Need-returns Inv-loop μ-loop
 returns c =
     let loop = c .before .loop in
     let args = c .before .before .before .before .args in
-    let all : loop .i ≡ args .t1 .count = omega (arith, c .loop-test .left, loop .inv .0) in (
+    let all : loop .i ≡ args .turn-count = omega (arith, c .loop-test .left, loop .inv .0) in (
       record {
+        whole = record { places-whole = loop .inv .1 .entries-stand .places-length; fates-whole = loop .inv .2 };
         placed = record { few = loop .inv .1 .entries-stand .few; below = loop .inv .1 .entries-stand .below };
         totalled = loop .inv .4;
-        turns-counted = refl;
         course = λ t of.
-            all-taken t (args .t1 .order) (args .t1 .count) (loop .i) (loop .keys) _ all (of .valid .jobs-rise)
+            all-taken t (args .turns .now) (args .turn-count) (loop .i) (loop .keys) _ all (of .valid .jobs-rise)
             (loop .inv .3 t of);
       },
       rw all at (loop .inv .6),
@@ -236,7 +236,7 @@ take-turns-spec =
     element-copy-out-note-turn
     turn-requires
     mul-fates
-    array-write-fates
+    element-write-fates
     note-turn-requires
     add-i
     loop-less

@@ -6,7 +6,7 @@ use mathlib.Core.Path.{_≡_, _∙_}
 use Prim.Native.Nat.{ℕ, _-_}
 use native.Mathlib.Omega.{arith}
 use borrow.Author.Needs.{needs}
-use lib.ListN.{getD}
+use lib.ListN.{getD, length}
 use Rattle.chains.specs.Stage.{fateIfLate}
 use Rattle.columns.specs.Columns.{RunsOf, TermsOf}
 use Rattle.columns.specs.declared.Terms.{Terms}
@@ -29,22 +29,23 @@ module _ (cycles termination : List ℕ) (terms : Terms) where
   read-from-columns t terms-of runs place fate e =
       e ∙ rw (runs .cycles-of place, runs .termination-of place, terms-of .clock, terms-of .mhz)
 
-  all-late-fates : (fates : List ℕ) → RightBelow (LateFate cycles termination terms) (terms .«job_count») fates
-      → LateFates cycles termination terms fates
-  all-late-fates fates right = record {
+  all-late-fates : (fates : List ℕ) → length fates ≡ mostJobs
+      → RightBelow (LateFate cycles termination terms) (terms .«job_count») fates → LateFates cycles termination terms fates
+  all-late-fates fates whole right = record {
+    whole = whole;
     late = λ t terms-of runs i l.
         read-from-columns t terms-of runs i (getD fates i 0) (right i (omega (arith, terms-of .job-count)));
   }
 
 abbrev Inv-loop : tie.InvT-loop
-Inv-loop cycles termination terms count fates₀ i₀ fates i =
+Inv-loop fates₀ cycles termination terms count i₀ fates i =
     FilledTo (LateFate cycles termination terms) i fates
 
 abbrev μ-loop : tie.MeasureT-loop
-μ-loop cycles termination terms count fates₀ i₀ fates i = mostJobs - i
+μ-loop fates₀ cycles termination terms count i₀ fates i = mostJobs - i
 
 loop-holds : tie.Need-loop-holds Inv-loop μ-loop
-loop-holds c = nothing-filled _
+loop-holds c = nothing-filled _ _ (c .pre .0)
 
 mul-fate-if-late : tie.Need-mul-fate-if-late Inv-loop μ-loop
 mul-fate-if-late c = search needs
@@ -63,17 +64,17 @@ fate-if-late-requires c κs =
     let start = c .before .before .before .before in
     let i = c .before .before .before .loop .i in
     record {
-      clock-small = start .pre .1 .clock;
-      mhz-small = start .pre .1 .mhz;
-      cycles-small = omega (arith, start .pre .0 .cycles-small i);
-      termination-small = start .pre .0 .termination-small i;
+      clock-small = start .pre .2 .clock;
+      mhz-small = start .pre .2 .mhz;
+      cycles-small = omega (arith, start .pre .1 .cycles-small i);
+      termination-small = start .pre .1 .termination-small i;
     }
 
 mul-fates : tie.Need-mul-fates Inv-loop μ-loop
 mul-fates c = search needs
 
-array-write-fates : tie.Need-array-write-fates Inv-loop μ-loop
-array-write-fates c = search needs
+element-write-fates : tie.Need-element-write-fates Inv-loop μ-loop
+element-write-fates c = search needs
 
 add-i : tie.Need-add-i Inv-loop μ-loop
 add-i c = search needs
@@ -91,7 +92,7 @@ returns : tie.Need-returns Inv-loop μ-loop
 returns c =
     let args = c .before .before .args in
     let loop = c .before .loop in
-    all-late-fates (args .cycles .now) (args .termination .now) (args .terms) (loop .fates)
+    all-late-fates (args .cycles .now) (args .termination .now) (args .terms) (loop .fates) (loop .inv .whole)
     (filled-below _ (loop .fates) (loop .i) (args .terms .«job_count») (omega arith) (loop .inv))
 
 pub late-fates-spec : {M : Type 1} → statement M
@@ -107,7 +108,7 @@ late-fates-spec =
     element-copy-out-fate-if-late-2
     fate-if-late-requires
     mul-fates
-    array-write-fates
+    element-write-fates
     add-i
     loop-less
     loop-again

@@ -1,61 +1,56 @@
 -- `remaining::ring_fates` meets its contract. At the place of each job passed stands the fate that step 2 leaves it, and at
--- each later place the mark that tells whether the job there is awaited. The measure is how many places are left. Assumes
+-- each later place still that of step 1; the marks tell who is awaited. The measure is how many places are left. Assumes
 -- nothing.
 use mathlib.Core.List.{List}
-use mathlib.Core.Path.{_≡_, refl, sym, _∙_}
-use Prim.Native.Nat.{ℕ, _+_, _-_, _≤_, _<_}
+use mathlib.Core.Path.{_≡_, refl, _∙_}
+use Prim.Native.Nat.{ℕ, _+_, _-_, _≤_}
 use native.Mathlib.Omega.{arith}
 use borrow.Author.Needs.{needs}
-use lib.ListN.{getD, set}
+use lib.ListN.{getD, length, set}
 use lib.Seq.{getD-set-other}
-use Rattle.remaining.proofs.FilledTo.{FilledTo, RightBelow, filled-below, one-more-filled}
+use Rattle.remaining.proofs.FilledTo.{FilledTo, RightBelow, filled-below, nothing-filled, one-more-filled}
 use Rattle.remaining.proofs.ring_fates.Statement.{statement}
 use Rattle.remaining.proofs.ring_fates.Tie as tie
-use Rattle.remaining.specs.Promises.{NobodyWaits, RingFate, RingFates}
+use Rattle.remaining.specs.Promises.{Awaited, RingFate, RingFates}
 use Rattle.rules.specs.TableText.{mostJobs}
 
--- the fate of the job at a place after step 2, from the mark that stood there
-record FateAt (late waits number worth cycles : List ℕ) (count place fate : ℕ) : Type 0 where
-  mark : ℕ
-  unmarked : mark ≡ 0 → NobodyWaits waits count place
-  of-ring : RingFate (getD late place 0) mark place waits number worth cycles fate
+-- the fate of the job at a place after step 2, from the mark that stands there
+abbrev FateAt : (late marks waits number worth cycles : List ℕ) → ℕ → ℕ → Type 0
+FateAt late marks waits number worth cycles place fate =
+    RingFate (getD late place 0) (getD marks place 0) place waits number worth cycles fate
 
--- from a place on stand the marks of those who are awaited
-abbrev MarkedFrom : List ℕ → ℕ → ℕ → List ℕ → Type 0
-MarkedFrom waits count i fates =
-    (place : ℕ) → i ≤ place → place < mostJobs → getD fates place 0 ≡ 0 → NobodyWaits waits count place
+-- from a place on stand the fates of step 1
+abbrev StillLate : List ℕ → ℕ → List ℕ → Type 0
+StillLate late i fates = (place : ℕ) → i ≤ place → getD fates place 0 ≡ getD late place 0
 
-marks-stay : (waits : List ℕ) (count i v : ℕ) (fates : List ℕ) → MarkedFrom waits count i fates
-    → MarkedFrom waits count (i + 1) (set fates i v)
-marks-stay waits count i v fates marked place l m z =
-    marked place (omega arith) m (sym (getD-set-other fates i place v 0 (λ (e : place ≡ i). omega arith)) ∙ z)
+late-stay : (late : List ℕ) (i v : ℕ) (fates : List ℕ) → StillLate late i fates → StillLate late (i + 1) (set fates i v)
+late-stay late i v fates still place l =
+    getD-set-other fates i place v 0 (λ (e : place ≡ i). omega arith) ∙ still place (omega arith)
 
-module _ (late waits number worth cycles : List ℕ) where
-  all-ring-fates : (count : ℕ) (fates : List ℕ) → RightBelow (FateAt late waits number worth cycles count) count fates
+module _ (late marks waits number worth cycles : List ℕ) where
+  all-ring-fates : (count : ℕ) (fates : List ℕ) → count ≤ mostJobs → length fates ≡ mostJobs → Awaited waits count marks
+      → RightBelow (FateAt late marks waits number worth cycles) count fates
       → RingFates late waits number worth cycles count fates
-  all-ring-fates count fates right = record {
+  all-ring-fates count fates few whole marked right = record {
+    whole = whole;
     fates = λ t js next long rising waits-of number-of worth-of cycles-of i l.
-        let at = right i (omega arith) in
-        at .of-ring .fate t js next (λ z k m. at .unmarked z k (omega arith)) rising waits-of l number-of worth-of
-        cycles-of;
+        right i (omega arith) .fate t js next (λ z k m. marked .unmarked i (omega arith) z k (omega arith)) rising waits-of l
+        number-of worth-of cycles-of;
   }
 
 abbrev Inv-loop : tie.InvT-loop
-Inv-loop late waits number worth cycles job-count fates₀ i₀ fates i =
-    FilledTo (FateAt late waits number worth cycles job-count) i fates × MarkedFrom waits job-count i fates
+Inv-loop fates₀ waits number worth cycles job-count marks i₀ fates i =
+    FilledTo (FateAt fates₀ marks waits number worth cycles) i fates × StillLate fates₀ i fates × Awaited waits job-count marks
 
 abbrev μ-loop : tie.MeasureT-loop
-μ-loop late waits number worth cycles job-count fates₀ i₀ fates i = mostJobs - i
+μ-loop fates₀ waits number worth cycles job-count marks i₀ fates i = mostJobs - i
 
 mark-awaited-requires : tie.Need-mark-awaited-requires Inv-loop μ-loop
-mark-awaited-requires c κs = (c .before .pre .0, refl)
+mark-awaited-requires c κs = (c .before .pre .1, refl)
 
 loop-holds : tie.Need-loop-holds Inv-loop μ-loop
 loop-holds c =
-    let marks = c .mark-awaited .ensures in (
-      record { whole = marks .whole; right = λ k l. absurd (omega arith) },
-      λ place l m z. marks .unmarked place m z,
-    )
+    (nothing-filled _ _ (c .before .before .pre .0), λ place l. refl, c .mark-awaited .ensures)
 
 mul-ring-fate : tie.Need-mul-ring-fate Inv-loop μ-loop
 mul-ring-fate c = search needs
@@ -71,13 +66,13 @@ array-read-ring-fate c = search needs
 
 ring-fate-requires : tie.Need-ring-fate-requires Inv-loop μ-loop
 ring-fate-requires c κs =
-    let start = c .before .before .before .before .before in (omega arith, start .pre .1, start .pre .2)
+    let start = c .before .before .before .before .before in (omega arith, start .pre .2, start .pre .3)
 
 mul-fates : tie.Need-mul-fates Inv-loop μ-loop
 mul-fates c = search needs
 
-array-write-fates : tie.Need-array-write-fates Inv-loop μ-loop
-array-write-fates c = search needs
+element-write-fates : tie.Need-element-write-fates Inv-loop μ-loop
+element-write-fates c = search needs
 
 add-i : tie.Need-add-i Inv-loop μ-loop
 add-i c = search needs
@@ -91,19 +86,16 @@ loop-again c =
     let loop = held .loop in
     let args = held .before .before .before .args in (
       one-more-filled _ (loop .fates) (loop .i) _ (omega arith) (loop .inv .0)
-          (record {
-            mark = getD (loop .fates) (loop .i) 0;
-            unmarked = loop .inv .1 (loop .i) (omega arith) (omega arith);
-            of-ring = c .ring-fate .ensures;
-          }),
-      marks-stay (args .waits .now) (args .job-count) (loop .i) _ (loop .fates) (loop .inv .1),
+          (rw (loop .inv .1 (loop .i) (omega arith)) at (c .ring-fate .ensures)),
+      late-stay (args .fates .now) (loop .i) _ (loop .fates) (loop .inv .1),
+      loop .inv .2,
     )
 
 returns : tie.Need-returns Inv-loop μ-loop
 returns c =
     let start = c .before .before .before .before in
     let loop = c .before .loop in
-    all-ring-fates _ _ _ _ _ _ (loop .fates)
+    all-ring-fates _ _ _ _ _ _ _ (loop .fates) (start .pre .1) (loop .inv .0 .whole) (loop .inv .2)
     (filled-below _ (loop .fates) (loop .i) (start .args .job-count) (omega arith) (loop .inv .0))
 
 pub ring-fates-spec : {M : Type 1} → statement M
@@ -120,7 +112,7 @@ ring-fates-spec =
     array-read-ring-fate
     ring-fate-requires
     mul-fates
-    array-write-fates
+    element-write-fates
     add-i
     loop-less
     loop-again

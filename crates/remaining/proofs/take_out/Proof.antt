@@ -8,9 +8,6 @@ use Rattle.remaining.proofs.take_out.Tie as tie
 late-fates-requires : tie.Need-late-fates-requires
 late-fates-requires c κs = search needs
 
-holders-requires : tie.Need-holders-requires
-holders-requires c κs = search needs
-
 waits-column-requires : tie.Need-waits-column-requires
 waits-column-requires c κs = search needs
 
@@ -24,16 +21,15 @@ returns : tie.Need-returns
 returns c =
     let ringed = c .before .before .before in
     let looked-up = ringed .before .before .before in
-    let held = looked-up .before .before .before in
-    steps-1-and-2 (held .before .late-fates .ensures) (held .holders .ensures) (looked-up .waits-column .ensures)
-    (ringed .ring-fates .ensures) (c .waits-column2 .ensures)
+    let late = looked-up .before .before .before in
+    steps-1-and-2 (late .late-fates .ensures) (looked-up .waits-column .ensures) (ringed .ring-fates .ensures)
+    (c .waits-column2 .ensures)
 
 pub take-out-spec : {M : Type 1} → statement M
 take-out-spec =
     tie.close
     (tie.spec
     late-fates-requires
-    holders-requires
     waits-column-requires
     ring-fates-requires
     waits-column-requires-2

@@ -7,6 +7,7 @@ use native.Mathlib.Omega.{arith}
 use lib.ListN.{length, length-map, take}
 use Rattle.columns.specs.Columns.{TermsOf}
 use Rattle.plans.proofs.Deciding.{same-terms, some-speed, table-runnable, terms-of-table}
+use Rattle.plans.specs.Courses.{CourseLeft, courseLeft}
 use Rattle.plans.specs.Promises.{CourseBy, RoomsNoted}
 use Rattle.roomlines.proofs.Listed.{lines-of-rows}
 use Rattle.roomlines.proofs.OwnTurns.{rows-by, rows-counted, turn-places}
@@ -37,7 +38,7 @@ records c = withBudget (recordsOf (c .args .table)) (c .args .budget)
 
 -- what stood when the terms were known, when the columns were, and at the start
 abbrev termed : tie.After-course-of → tie.After-terms-of
-termed c = c .before .before .before .before .before .before .before .before .before .before
+termed c = c .before .before .before .before .before .before .before .before .before .before .before .before
 
 abbrev columned : tie.After-terms-of → tie.After-columns-of
 columned c = c .before .before .before
@@ -64,19 +65,28 @@ slice-aggregate-course-of-2 c = search needs
 
 course-of-requires : tie.Need-course-of-requires
 course-of-requires c κs =
-    let terms = c .before .before .before .before .before .before .before .before .before in
+    let terms = c .before .before .before .before .before .before .before .before .before .before .before in
     let columns = columned terms in
-    let start = started columns in
-    rw (terms .terms-of .ensures)
-    (table-runnable (start .args .table) (start .args .budget) (start .pre .0) (all-speeds start) (columns .columns-of .result)
-    (columns .columns-of .ensures) (all-holds start) (all-jobs start))
+    let start = started columns in (
+      record { places-whole = refl; fates-whole = refl },
+      rw (terms .terms-of .ensures)
+          (table-runnable (start .args .table) (start .args .budget) (start .pre .0) (all-speeds start) (columns .columns-of .result)
+          (columns .columns-of .ensures) (all-holds start) (all-jobs start)),
+    )
 
 -- what is noted of the course
 abbrev orderAfter : tie.After-course-of → List ℕ
-orderAfter c = c .course-of .last .1 .1 .1 .1 .1 .1 .1 .1 .1 .0
+orderAfter c = c .course-of .last .1 .1 .1 .1 .1 .1 .1 .1 .1 .1 .1 .0
 
 abbrev roomsAfter : tie.After-course-of → List ℕ
-roomsAfter c = c .course-of .last .1 .1 .1 .1 .1 .1 .1 .1 .1 .1 .0
+roomsAfter c = c .course-of .last .1 .1 .1 .1 .1 .1 .1 .1 .1 .1 .1 .1 .0
+
+-- the fates that it leaves, and what it leaves in all
+abbrev fatesAfter : tie.After-course-of → List ℕ
+fatesAfter c = c .course-of .last .1 .0
+
+abbrev leftBy : tie.After-course-of → CourseLeft
+leftBy c = courseLeft (c .course-of .last .0) (fatesAfter c) (c .course-of .result .totals) (c .course-of .result .turns)
 
 -- the course's terms are the table's
 terms-beside : (c : tie.After-course-of) → TermsOf (records (begun c)) (termed c .terms-of .result)
@@ -86,7 +96,7 @@ terms-beside c =
     (terms-of-table (start .args .table) (start .args .budget) (start .pre .0) (all-speeds start) (all-jobs start))
 
 -- the course of the table with the budget beside it, and what is noted of it
-course-by : (c : tie.After-course-of) → CourseBy (records (begun c)) (courseOf (records (begun c))) (c .course-of .result)
+course-by : (c : tie.After-course-of) → CourseBy (records (begun c)) (courseOf (records (begun c))) (leftBy c)
 course-by c =
     let start = begun c in
     c .course-of .ensures .0 .course (records start) (start .pre .0 .valid) (terms-beside c)
@@ -104,10 +114,10 @@ places-noted c = omega (arith, c .course-of .ensures .1 .order-whole, c .course-
 
 room-rows-requires : tie.Need-room-rows-requires
 room-rows-requires c κs =
-    let ran = c .before .before .before .before .before .before .before .before .before in
+    let ran = c .before .before .before .before .before .before .before .before in
     let start = begun ran in (
       turn-places (records start) (start .pre .0 .valid) (ran .course-of .result .turns) (orderAfter ran) (roomsAfter ran)
-          (columned (termed ran) .columns-of .result .number) (ran .course-of .result .fates) (noted ran)
+          (columned (termed ran) .columns-of .result .number) (fatesAfter ran) (noted ran)
           (columned (termed ran) .columns-of .ensures .number) (course-by ran .fates) (places-noted ran)
           (ran .course-of .ensures .1 .few),
       start .pre .1,
@@ -115,16 +125,16 @@ room-rows-requires c κs =
 
 returns : tie.Need-returns
 returns c =
-    let ran = c .before .before .before .before .before .before .before .before .before .before in
+    let ran = c .before .before .before .before .before .before .before .before .before in
     let start = begun ran in
     let t = records start in
     let course = ran .course-of .result in
     let columns = columned (termed ran) .columns-of in
     rw (sym (lines-of-rows t))
     (c .room-rows .ensures (roomsOf t)
-    (rows-counted t (start .pre .0 .valid) (course .turns) (orderAfter ran) (roomsAfter ran) (columns .result .number) (course .fates)
+    (rows-counted t (start .pre .0 .valid) (course .turns) (orderAfter ran) (roomsAfter ran) (columns .result .number) (fatesAfter ran)
     (noted ran) (columns .ensures .number) (course-by ran .fates) (places-noted ran))
-    (rows-by t (start .pre .0 .valid) (course .turns) (orderAfter ran) (roomsAfter ran) (columns .result .number) (course .fates)
+    (rows-by t (start .pre .0 .valid) (course .turns) (orderAfter ran) (roomsAfter ran) (columns .result .number) (fatesAfter ran)
     (noted ran) (columns .ensures .number) (course-by ran .fates) (places-noted ran)))
 
 pub rows-of-spec : {M : Type 1} → statement M
