@@ -22,7 +22,7 @@ use Rattle.rules.specs.TableText.{Record, Records, letterT, linesOf, mostJobs, 
 use Rattle.rules.specs.declared.Field.{Field}
 use Rattle.rules.specs.declared.Refusal.{Refusal}
 use Rattle.text.proofs.Records.{no-letter-read, no-row-read, row-made-read}
-use Rattle.text.proofs.Told.{rowWith, last-one, no-last, no-more, nothing-taken, one-more}
+use Rattle.text.proofs.Told.{rowWith, last-one, no-field, nothing-taken, number-field, one-more, refused-field}
 use Rattle.text.specs.Fields.{FieldsTold, refusedField, rowAt, takenSays}
 use Rattle.text.specs.Lines.{LineRead, itemOf, refusedLine, refusedLineOr}
 use Rattle.text.specs.declared.Line.{Line}
@@ -118,18 +118,18 @@ module _ (text : List ℕ) (some-byte : 0 < length text) where
     pub no-clock-one : (why : Refusal) (line : ℕ) → clock .field ≡ Field.Refused why line
         → clockLineSays (ClockLine.Refused Refusal.Shape 1) ≡ firstLine text
     unfolding takenAt
-    no-clock-one why line g = no-row (no-more (letter .next) [] text (letter .next) clock d 0 why line g ∙ sym begins)
+    no-clock-one why line g = no-row (no-field (letter .next) [] text (letter .next) 1 (refused-field clock _ why line d g) ∙ sym begins)
 
     module _ (budget : FieldTaken) (n : ℕ) (number : clock .field ≡ Field.Number n)
         (b : takenSays budget ≡ takenAt text (clock .next) Kind.Last) where
       clock-taken : row ≡ rowWith (letter .next) (n ∷ []) (rowAt 1 text (clock .next))
       unfolding takenAt
-      clock-taken = begins ∙ one-more (letter .next) [] text (letter .next) clock d 0 n number
+      clock-taken = begins ∙ one-more (letter .next) [] text (letter .next) n (clock .next) 0 (number-field clock _ n d number)
 
       pub no-budget-one : (why : Refusal) (line : ℕ) → budget .field ≡ Field.Refused why line
           → clockLineSays (ClockLine.Refused Refusal.Shape 1) ≡ firstLine text
       unfolding takenAt
-      no-budget-one why line g = no-row (no-last (letter .next) (n ∷ []) text (clock .next) budget b why line g ∙ sym clock-taken)
+      no-budget-one why line g = no-row (no-field (letter .next) (n ∷ []) text (clock .next) 0 (refused-field budget _ why line b g) ∙ sym clock-taken)
 
       pub both-numbers-one : (m : ℕ) → budget .field ≡ Field.Number m
           → lineOneSays (accept nothing (one (Record.T n m))) ≡ firstLine text
@@ -137,7 +137,7 @@ module _ (text : List ℕ) (some-byte : 0 < length text) where
       both-numbers-one m g =
           line-one-item _
           (row-made-read text firstPlace letter e letterT f (n ∷ m ∷ []) [] (budget .next)
-          (last-one (letter .next) (n ∷ []) text (clock .next) budget b m g ∙ sym clock-taken))
+          (last-one (letter .next) (n ∷ []) text (clock .next) m (budget .next) (number-field budget _ m b g) ∙ sym clock-taken))
 
 -- The numbers of a T line, judged after nothing.
 module _ (clock budget : ℕ) (o : Option Refusal) (fault : o ≡ clockFault noneStanding clock budget) where

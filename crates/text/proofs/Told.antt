@@ -2,12 +2,12 @@
 -- were taken so far and what is told of those behind them, field by field. Assumes nothing.
 use mathlib.Core.Bool.{Bool, true, false, cond, _&&_}
 use mathlib.Core.List.{List, [], _∷_, _++_, append-assoc}
-use mathlib.Core.Path.{_≡_, refl, sym, ap}
+use mathlib.Core.Path.{_≡_, refl, sym, ap, _∙_}
 use Prim.Native.Nat.{ℕ, zero, suc, _+_}
 use borrow.Author.Tests.{ne-eqb}
 use lib.ListN.{length, drop}
 use Rattle.laws.proofs.Unique.{refusal-not-0}
-use Rattle.rules.specs.Answers.{good, numberOf}
+use Rattle.rules.specs.Answers.{fieldSays, good, numberOf}
 use Rattle.rules.specs.TableText.{isNumber, lineFeed, tab, valueFrom}
 use Rattle.rules.specs.declared.Field.{Field}
 use Rattle.rules.specs.declared.Refusal.{Refusal}
@@ -19,6 +19,10 @@ use Rattle.text.specs.declared.FieldTaken.{FieldTaken}
 pub refused-field : (taken : FieldTaken) (told : FieldsTold) (why : Refusal) (line : ℕ) → takenSays taken ≡ told
     → taken .field ≡ Field.Refused why line → isGood told ≡ false
 refused-field taken told why line e f = rw (← e) (rw f (ne-eqb (numberOf why) 0 (refusal-not-0 why)))
+
+pub number-field : (taken : FieldTaken) (told : FieldsTold) (n : ℕ) → takenSays taken ≡ told → taken .field ≡ Field.Number n
+    → told ≡ record { says = good (n ∷ []); next = taken .next }
+number-field taken told n e f = sym e ∙ ap (λ field. record { says = fieldSays field; next = taken .next }) f
 
 pub refused-row : (place : Cursor) (numbers : List ℕ) (row : RowTaken) (told : FieldsTold) (why : Refusal) (line : ℕ)
     → rowSays place numbers row ≡ told → row ≡ RowTaken.Refused why line → isGood told ≡ false
@@ -53,31 +57,47 @@ onto-by-test true start place next numbers others n =
     ap (λ ns. record { says = good ns; next = next }) (sym (append-assoc numbers (n ∷ []) others))
 onto-by-test false start place next numbers others n = refl
 
-module _ (start : Cursor) (numbers : List ℕ) (text : List ℕ) (place : Cursor) (taken : FieldTaken) where
-  -- a field ended by a tab is one more number of the row, or the row is refused
-  module _ (e : takenSays taken ≡ numberAt text place tab) where
-    pub one-more : (more n : ℕ) → taken .field ≡ Field.Number n
-        → rowWith start numbers (rowAt (suc (suc more)) text place)
-        ≡ rowWith start (numbers ++ n ∷ []) (rowAt (suc more) text (taken .next))
-    unfolding rowAt
-    one-more more n f =
-        let others = rowAt (suc more) text (taken .next) in
-        rw (← e) (rw f (onto-by-test (isGood others) start place (others .next) numbers (others .says .values) n))
+-- the byte that is to end a field, by how many fields are left behind it
+abbrev pub endBefore : ℕ → ℕ
+endBefore zero = lineFeed
+endBefore (suc more) = tab
 
-    pub no-more : (more : ℕ) (why : Refusal) (line : ℕ) → taken .field ≡ Field.Refused why line
-        → refusedField start ≡ rowWith start numbers (rowAt (suc (suc more)) text place)
-    unfolding rowAt
-    no-more more why line f = rw (refused-field taken (numberAt text place tab) why line e f)
+pub other-end : (left behind : ℕ) → (behind ≡ tab → ⊥) → (behind ≡ lineFeed → ⊥) → behind ≡ endBefore left → ⊥
+other-end zero behind e f = f
+other-end (suc more) behind e f = e
 
-  -- a field ended by the line feed is the last
-  module _ (e : takenSays taken ≡ numberAt text place lineFeed) where
-    pub last-one : (n : ℕ) → taken .field ≡ Field.Number n
-        → _≡_ {A = FieldsTold} (record { says = good (numbers ++ n ∷ []); next = taken .next })
-        (rowWith start numbers (rowAt 1 text place))
-    unfolding rowAt
-    last-one n f = rw (← e) (rw f)
+module _ (start : Cursor) (numbers text : List ℕ) (place : Cursor) where
+  -- where no field is left there is no row
+  pub none-left : refusedField start ≡ rowWith start numbers (rowAt 0 text place)
+  unfolding rowAt
+  none-left = refl
 
-    pub no-last : (why : Refusal) (line : ℕ) → taken .field ≡ Field.Refused why line
-        → refusedField start ≡ rowWith start numbers (rowAt 1 text place)
+  -- where the field that is to stand here does not, the row is refused
+  pub no-field : (left : ℕ) → isGood (numberAt text place (endBefore left)) ≡ false
+      → refusedField start ≡ rowWith start numbers (rowAt (suc left) text place)
+  unfolding rowAt
+  no-field zero e = rw e
+  no-field (suc more) e = rw e
+
+  module _ (n : ℕ) (next : Cursor) where
+    -- a field ended by a tab is one more number of the row
+    pub one-more : (more : ℕ) → numberAt text place tab ≡ record { says = good (n ∷ []); next = next }
+        → rowWith start numbers (rowAt (suc (suc more)) text place) ≡ rowWith start (numbers ++ n ∷ []) (rowAt (suc more) text next)
     unfolding rowAt
-    no-last why line f = rw (refused-field taken (numberAt text place lineFeed) why line e f)
+    one-more more e =
+        let others = rowAt (suc more) text next in
+        rw e (onto-by-test (isGood others) start place (others .next) numbers (others .says .values) n)
+
+    -- and if it should be the last there is none left
+    pub goes-on : (left : ℕ) → numberAt text place tab ≡ record { says = good (n ∷ []); next = next }
+        → isGood (numberAt text place lineFeed) ≡ false
+        → rowWith start numbers (rowAt (suc left) text place) ≡ rowWith start (numbers ++ n ∷ []) (rowAt left text next)
+    unfolding rowAt
+    goes-on zero e f = sym (no-field zero f)
+    goes-on (suc more) e f = one-more more e
+
+    -- a field ended by the line feed is the last
+    pub last-one : numberAt text place lineFeed ≡ record { says = good (n ∷ []); next = next }
+        → _≡_ {A = FieldsTold} (record { says = good (numbers ++ n ∷ []); next = next }) (rowWith start numbers (rowAt 1 text place))
+    unfolding rowAt
+    last-one e = rw e

@@ -1,13 +1,13 @@
 -- Document 01, "The table text": "While the text is read, a field is either a number or the refusal of its line, and the
 -- reading place moves on with each field taken."
 use mathlib.Core.Path.{_≡_}
-use mathlib.Core.Bool.{Bool, cond, not, _&&_, _||_}
+use mathlib.Core.Bool.{Bool, true, false, cond, _&&_}
 use mathlib.Core.List.{List, [], _∷_, _++_}
-use Prim.Native.Nat.{ℕ, zero, suc, _+_, _≤_}
-use lib.Dec.{leb, ltb, eqb}
+use Prim.Native.Nat.{ℕ, zero, suc, _+_, _<_}
+use lib.Dec.{ltb, eqb}
 use lib.ListN.{length, getD, drop}
 use Rattle.rules.specs.Answers.{Answer, fieldSays, good, refused}
-use Rattle.rules.specs.TableText.{digitZero, isDigit, isLetter, isNumber, lineFeed, mostDigits, tab, valueFrom}
+use Rattle.rules.specs.TableText.{isDigit, isLetter, isNumber, lineFeed, tab, valueFrom}
 use Rattle.rules.specs.declared.Refusal.{Refusal}
 use Rattle.text.specs.declared.Cursor.{Cursor}
 use Rattle.text.specs.declared.RowTaken.{RowTaken}
@@ -19,19 +19,19 @@ unfoldable pub front : List ℕ → List ℕ
 front [] = []
 front (b ∷ bs) = cond (isDigit b) (b ∷ front bs) []
 
--- What reading digits promises: no more are counted than stand there; and where no more are counted than a number has,
--- they are all, with the number that they stand for.
-pub record DigitsRead (digits : List ℕ) (r : DigitRun) : Type 0 where
-  pub within : r .count ≤ length digits
-  pub all : r .count ≤ mostDigits → (r .count ≡ length digits) × (r .value ≡ valueFrom 0 digits)
-
 -- the byte b stands at a place of the text
 abbrev pub standsAt : List ℕ → ℕ → ℕ → Bool
 standsAt text at b = ltb at (length text) && eqb (getD text at 0) b
 
--- "decimal digits with no leading zero (0 is "0"), at most 16 digits", by their count and the first
-unfoldable pub shaped : ℕ → ℕ → Bool
-shaped count first = not (eqb count 0) && leb count mostDigits && (not (eqb first digitZero) || leb count 1)
+-- What reading the digits at the front of a text promises, where a test says whether they are as wanted: if a byte ends them,
+-- they are, with their count and the number that they stand for; if none does, they are not, or the text ends behind them.
+abbrev pub RunRead : Bool → List ℕ → DigitRun → Type 0
+RunRead wanted text (DigitRun.Ended count value behind) =
+    (wanted ≡ true)
+    × (count ≡ length (front text))
+    × (value ≡ valueFrom 0 (front text))
+    × (standsAt text count behind ≡ true)
+RunRead wanted text DigitRun.Unended = (end : ℕ) → (wanted && standsAt text (length (front text)) end) ≡ false
 
 -- What is told of fields that stand at a place: their values, or number and line of the refusal; and the place behind them.
 pub record FieldsTold : Type 0 where
@@ -68,6 +68,19 @@ numberWith text place end digits =
 -- the number that stands at a place and is ended by the byte `end`
 unfoldable pub numberAt : List ℕ → Cursor → ℕ → FieldsTold
 numberAt text place end = numberWith text place end (front (drop (place .at) text))
+
+-- digits that are read at a place, if the byte `end` is to stand behind them
+abbrev pub runSays : Cursor → ℕ → DigitRun → FieldsTold
+runSays place end (DigitRun.Ended count value behind) =
+    cond (eqb behind end)
+    (record { says = good (value ∷ []); next = behindByte end (place .at + count) place })
+    (refusedField place)
+runSays place end DigitRun.Unended = refusedField place
+
+-- What reading the digits at a place promises: by the byte behind them, all that is to be told of a number there.
+pub record NumberRead (text : List ℕ) (place : Cursor) (r : DigitRun) : Type 0 where
+  pub says : (end : ℕ) → runSays place end r ≡ numberAt text place end
+  pub within : (count value behind : ℕ) → r ≡ DigitRun.Ended count value behind → place .at + count < length text
 
 -- the letter of a record that stands at a place alone before a tab
 unfoldable pub letterAt : List ℕ → Cursor → FieldsTold

@@ -1,10 +1,12 @@
 // Reads a table text by a cursor: a field, a row of fields, and one line with its record. Nothing is split or copied: the
 // text is lent to each call, and the reading place goes by value.
 ghost use mathlib.Core.Path.{_≡_};
-ghost use Prim.Native.Nat.{_+_, _≤_};
+ghost use mathlib.Core.Bool.{false};
+ghost use Prim.Native.Nat.{_+_, _<_, _≤_};
+ghost use lib.Dec.{leb, ltb};
 ghost use lib.ListN.{length};
-ghost use Rattle.rules.specs.TableText.{fieldCount, isLetter, letterRecord, mostDigits, mostFields};
-ghost use Rattle.text.specs.Fields.{DigitsRead, front, letterAt, lineBehind, numberAt, refusedField, rowAt, rowSays, shaped, takenSays};
+ghost use Rattle.rules.specs.TableText.{digitZero, fieldCount, isDigit, isLetter, letterRecord, mostDigits, mostFields};
+ghost use Rattle.text.specs.Fields.{NumberRead, RunRead, front, letterAt, lineBehind, numberAt, refusedField, rowAt, rowSays, takenSays};
 ghost use Rattle.text.specs.Lines.{LineRead, parsedWith, refusedLine};
 use rules::Field;
 use rules::Hold;
@@ -40,10 +42,11 @@ pub struct FieldTaken {
     pub next: Cursor,
 }
 
-// Digits in a row: how many, and the number that they stand for.
-struct DigitRun {
-    count: usize,
-    value: u64,
+// Digits in a row: how many, the number that they stand for, and the byte that ends them; or no byte ends them, since the
+// text does, or they are too many for a number.
+enum DigitRun {
+    Ended(usize, u64, u8),
+    Unended,
 }
 
 // The reading place behind a row of numbers, or the refusal of its line.
@@ -68,51 +71,43 @@ pub struct Line {
     pub next: Cursor,
 }
 
-// How far into so many bytes digits are read: with one more than a number has they are no number.
-fn reach(bytes: usize) -> usize
-    ensures { λ r. ⌜ (r ≤ bytes) × (r ≤ mostDigits + 1) × (r ≤ mostDigits → r ≡ bytes) ⌝ }
+// The digit that a byte is; above 9, it is none. The difference wraps for the bytes below `0`: so one comparison tells them
+// and those above `9` from the digits.
+fn digit(byte: u8) -> u64
+    ensures { λ r. ⌜ (r ≤ 9 → byte ≡ digitZero + r) × (9 < r → isDigit byte ≡ false) ⌝ }
 {
-    if bytes <= MOST_DIGITS {
-        return bytes;
-    }
-    MOST_DIGITS + 1
+    std::num::wrapping_sub_u64(byte as u64, b'0' as u64)
 }
 
-// The digits at the front of a text, each read once: how many, and the number that they stand for.
-fn digits(text: &[u8]) -> DigitRun
-    ensures { λ r. ⌜ DigitsRead (front (now (text .entry))) r ⌝ }
+// The digits at the front of a text, among its first so many bytes.
+fn digits_within(text: &[u8], end: usize) -> DigitRun
+    requires { ⌜ (end ≤ length (now text)) × (end ≤ mostDigits + 1) ⌝ }
+    ensures { λ r. ⌜ RunRead (ltb (length (front (now (text .entry)))) end) (now (text .entry)) r ⌝ }
 {
-    let end = reach(text.len());
     let mut value: u64 = 0;
     let mut count = 0;
     while count < end {
         let byte = text[count];
-        if byte < b'0' {
-            return DigitRun { count, value };
+        let next = digit(byte);
+        if 9 < next {
+            return DigitRun::Ended(count, value, byte);
         }
-        if b'9' < byte {
-            return DigitRun { count, value };
-        }
-        value = value * 10 + ((byte - b'0') as u64);
+        value = value * 10 + next;
         count += 1;
     }
-    DigitRun { count, value }
+    DigitRun::Unended
 }
 
-// Digits are a number, by their count and the first: one or more, at most 16, and no leading zero.
-fn number_shaped(count: usize, first: u8) -> bool
-    ensures { λ r. ⌜ r ≡ shaped count first ⌝ }
+// The digits at the front of a text, if they are not more than so many. In a text that is longer the end is a constant
+// wherever this is called, and the compiler writes the loop out.
+fn digits(text: &[u8], most: usize) -> DigitRun
+    requires { ⌜ most ≤ mostDigits ⌝ }
+    ensures { λ r. ⌜ RunRead (leb (length (front (now (text .entry)))) most) (now (text .entry)) r ⌝ }
 {
-    if count == 0 {
-        return false;
+    if most < text.len() {
+        return digits_within(text, most + 1);
     }
-    if MOST_DIGITS < count {
-        return false;
-    }
-    if first == b'0' {
-        return count <= 1;
-    }
-    true
+    digits_within(text, text.len())
 }
 
 // The letter table: how many numbers stand behind each letter, and 0 for any other byte.
@@ -159,31 +154,39 @@ impl Cursor {
         }
     }
 
+    // The digits that stand here, if they are a number: 0 has one digit, and no other number begins with it.
+    fn run(self, text: &[u8]) -> DigitRun
+        ensures { λ r. ⌜ NumberRead (now (text .entry)) self r ⌝ }
+    {
+        let at = self.at;
+        if text.len() <= at {
+            return DigitRun::Unended;
+        }
+        let first = digit(text[at]);
+        if 9 < first {
+            return DigitRun::Unended;
+        }
+        if first == 0 {
+            return digits(&text[at..], 1);
+        }
+        digits(&text[at..], MOST_DIGITS)
+    }
+
     // The number that stands here and is ended by the byte `end`.
     pub fn number(self, text: &[u8], end: u8) -> FieldTaken
         ensures { λ r. ⌜ takenSays r ≡ numberAt (now (text .entry)) self end ⌝ }
     {
-        let at = self.at;
-        if text.len() <= at {
+        let DigitRun::Ended(count, value, behind) = self.run(text) else {
             return self.refused_field();
-        }
-        let run = digits(&text[at..]);
-        let count = run.count;
-        if !number_shaped(count, text[at]) {
-            return self.refused_field();
-        }
-        let behind = at + count;
-        if behind == text.len() {
-            return self.refused_field();
-        }
-        if text[behind] != end {
+        };
+        if behind != end {
             return self.refused_field();
         }
         let line = line_behind(end, self.line);
         FieldTaken {
-            field: Field::Number(run.value),
+            field: Field::Number(value),
             next: Cursor {
-                at: behind + 1,
+                at: self.at + count + 1,
                 line: line,
             },
         }
@@ -224,31 +227,30 @@ impl Cursor {
             rowSays self (now (numbers .exit)) r ≡ rowAt (length (now (numbers .entry))) (now (text .entry)) self
             ⌝ }
     {
-        let count = numbers.len();
-        if count == 0 {
-            return RowTaken::Refused(Refusal::Shape, self.line);
-        }
-        let last = count - 1;
         let mut place = self;
         let mut filled = 0;
-        while filled < last {
-            let taken = place.number(text, b'\t');
-            let field = taken.field;
-            let Field::Number(number) = field else {
+        while filled < numbers.len() {
+            let DigitRun::Ended(count, value, behind) = place.run(text) else {
                 return RowTaken::Refused(Refusal::Shape, self.line);
             };
-            numbers[filled] = number;
-            place = taken.next;
+            numbers[filled] = value;
             filled += 1;
+            place.at = place.at + count + 1;
+            if behind == b'\t' {
+                continue;
+            }
+            if behind != b'\n' {
+                return RowTaken::Refused(Refusal::Shape, self.line);
+            }
+            if filled < numbers.len() {
+                return RowTaken::Refused(Refusal::Shape, self.line);
+            }
+            return RowTaken::Behind(Cursor {
+                at: place.at,
+                line: line_behind(b'\n', self.line),
+            });
         }
-        let last_taken = place.number(text, b'\n');
-        let last_field = last_taken.field;
-        let Field::Number(last_number) = last_field else {
-            return RowTaken::Refused(Refusal::Shape, self.line);
-        };
-        numbers[last] = last_number;
-        let next = last_taken.next;
-        RowTaken::Behind(next)
+        RowTaken::Refused(Refusal::Shape, self.line)
     }
 
     // The refusal of a line that has none of the four shapes.
