@@ -3,18 +3,18 @@
 use mathlib.Core.Path.{_≡_, refl, sym, ap, _∙_}
 use mathlib.Core.Bool.{Bool, true, false, cond, _&&_, and-false}
 use mathlib.Core.List.{List, [], _∷_}
-use Prim.Native.Nat.{ℕ, _+_, _-_, _*_, _≤_, _<_, _^_}
+use Prim.Native.Nat.{ℕ, zero, suc, _+_, _-_, _*_, _≤_, _<_, _^_}
 use native.Mathlib.Nat.{pow-suc, pow-le-pow-right}
 use native.Mathlib.Numerals.{add-one}
 use native.Mathlib.Omega.{arith}
-use borrow.Author.Tests.{eq-eqb, le-leb, le-ltb, leb-false, leb-true, lt-leb, lt-ltb, ltb-true, ne-eqb}
+use borrow.Author.Tests.{eq-eqb, le-leb, le-ltb, leb-false, leb-true, lt-leb, lt-ltb, ltb-false, ltb-true, ne-eqb}
 use lib.Dec.{eqb, leb, ltb}
 use lib.ListN.{length, take, drop, getD, drop-of-length-le}
 use lib.Seq.{drop-cons}
 use Rattle.rules.specs.Lists.{all}
 use Rattle.rules.specs.TableText.{digitZero, isDigit, isNumber, leadingZero, mostDigits, valueFrom}
 use Rattle.text.specs.declared.DigitRun.{DigitRun}
-use Rattle.text.specs.Fields.{RunRead, front}
+use Rattle.text.specs.Fields.{RunRead, front, mostFrom}
 
 -- a byte from `0` to `9` is a digit, and any other is none
 digit-by-tests : (t u : Bool) (b : ℕ) → leb 48 b ≡ t → leb b 57 ≡ u → (48 ≤ b → b ≤ 57 → true ≡ false) → (t && u) ≡ false
@@ -154,3 +154,17 @@ module _ (s : List ℕ) (i : ℕ) (h : i < length s) where
       rw (front-more s i h digit)
       (other-number (getD s i 0) digit (front (drop (i + 1) s)) (front-digits (drop (i + 1) s))
       (ne-eqb (getD s i 0) digitZero (λ z. omega arith)))
+
+  pub front-number : (n : ℕ) → getD s i 0 ≡ digitZero + n → n ≤ 9
+      → isNumber (front (drop i s)) ≡ leb (length (front (drop i s))) (mostFrom n)
+  unfolding mostFrom
+  front-number zero e k = front-zero (omega arith)
+  front-number (suc n) e k = rw (ne-eqb (suc n) 0 (λ z. omega arith)) (front-other (suc n) e (omega arith) k)
+
+-- so many bytes and more stand from a place on
+room-by-test : (t : Bool) (length at most : ℕ) → most < length → ltb at (length - most) ≡ t → t ≡ ltb (at + most) length
+room-by-test true length at most h e = sym (lt-ltb (at + most) length (omega (arith, ltb-true at (length - most) e)))
+room-by-test false length at most h e = sym (le-ltb (at + most) length (omega (arith, ltb-false at (length - most) e)))
+
+pub room : (length at most : ℕ) → most < length → ltb at (length - most) ≡ ltb (at + most) length
+room length at most h = room-by-test (ltb at (length - most)) length at most h refl

@@ -1,9 +1,9 @@
 -- Digits that are read at a place, with the byte that ends them, say what a number is there, whatever byte is to end it.
 -- Assumes nothing.
-use mathlib.Core.Path.{_≡_, refl, sym, ap, _∙_}
-use mathlib.Core.Bool.{Bool, true, false, _&&_}
+use mathlib.Core.Path.{_≡_, sym, ap, _∙_}
+use mathlib.Core.Bool.{true, false, _&&_}
 use mathlib.Core.List.{List, [], _∷_}
-use Prim.Native.Nat.{ℕ, _+_, _<_}
+use Prim.Native.Nat.{ℕ, _+_}
 use borrow.Author.Tests.{eq-eqb, eqb-true, ne-eqb}
 use lib.Dec.{eqb, ltb}
 use lib.ListN.{length, drop, getD}
@@ -28,6 +28,11 @@ stands-alone text at b end h =
     let p = both-true (ltb at (length text)) (eqb (getD text at 0) b) h in
     rw (p .0) (ap (λ c. eqb c end) (eqb-true (getD text at 0) b (p .1)))
 
+-- where no digit stands there is no number
+pub nothing-read : (text : List ℕ) → front text ≡ [] → RunRead (isNumber (front text)) text DigitRun.Unended
+unfolding isNumber
+nothing-read text none = λ end. rw none
+
 module _ (text : List ℕ) (place : Cursor) where
   abbrev rest : List ℕ
   rest = drop (place .at) text
@@ -51,11 +56,6 @@ module _ (text : List ℕ) (place : Cursor) where
         let ended : RunRead (isNumber (front rest)) rest (DigitRun.Ended count value behind) = rw e at read in
         stands text (place .at + count) behind (sym (stands-dropped text (place .at) count behind) ∙ ended .3) .0;
   }
-
-  -- where no digit stands there is no number
-  pub nothing-read : front rest ≡ [] → NumberRead text place DigitRun.Unended
-  unfolding isNumber
-  nothing-read none = number-read DigitRun.Unended (λ end. rw none)
 
 -- the number that stands at a place, by the digits that are read there: it is ended by the byte behind them, and by no other
 module _ (text : List ℕ) (place : Cursor) (r : DigitRun) (read : NumberRead text place r) (end : ℕ) where

@@ -7,7 +7,7 @@ use Prim.Native.Nat.{ℕ, zero, suc, _+_, _<_}
 use lib.Dec.{ltb, eqb}
 use lib.ListN.{length, getD, drop}
 use Rattle.rules.specs.Answers.{Answer, fieldSays, good, refused}
-use Rattle.rules.specs.TableText.{isDigit, isLetter, isNumber, lineFeed, tab, valueFrom}
+use Rattle.rules.specs.TableText.{isDigit, isLetter, isNumber, lineFeed, mostDigits, tab, valueFrom}
 use Rattle.rules.specs.declared.Refusal.{Refusal}
 use Rattle.text.specs.declared.Cursor.{Cursor}
 use Rattle.text.specs.declared.RowTaken.{RowTaken}
@@ -22,6 +22,10 @@ front (b ∷ bs) = cond (isDigit b) (b ∷ front bs) []
 -- the byte b stands at a place of the text
 abbrev pub standsAt : List ℕ → ℕ → ℕ → Bool
 standsAt text at b = ltb at (length text) && eqb (getD text at 0) b
+
+-- how many digits a number has at most, by the first: 0 has one, and no other number begins with it
+unfoldable pub mostFrom : ℕ → ℕ
+mostFrom first = cond (eqb first 0) 1 mostDigits
 
 -- What reading the digits at the front of a text promises, where a test says whether they are as wanted: if a byte ends them,
 -- they are, with their count and the number that they stand for; if none does, they are not, or the text ends behind them.

@@ -5,8 +5,8 @@ ghost use mathlib.Core.Bool.{false};
 ghost use Prim.Native.Nat.{_+_, _<_, _≤_};
 ghost use lib.Dec.{leb, ltb};
 ghost use lib.ListN.{length};
-ghost use Rattle.rules.specs.TableText.{digitZero, fieldCount, isDigit, isLetter, letterRecord, mostDigits, mostFields};
-ghost use Rattle.text.specs.Fields.{NumberRead, RunRead, front, letterAt, lineBehind, numberAt, refusedField, rowAt, rowSays, takenSays};
+ghost use Rattle.rules.specs.TableText.{digitZero, fieldCount, isDigit, isLetter, isNumber, letterRecord, mostDigits, mostFields};
+ghost use Rattle.text.specs.Fields.{NumberRead, RunRead, front, letterAt, lineBehind, mostFrom, numberAt, refusedField, rowAt, rowSays, takenSays};
 ghost use Rattle.text.specs.Lines.{LineRead, parsedWith, refusedLine};
 use rules::Field;
 use rules::Hold;
@@ -98,8 +98,7 @@ fn digits_within(text: &[u8], end: usize) -> DigitRun
     DigitRun::Unended
 }
 
-// The digits at the front of a text, if they are not more than so many. In a text that is longer the end is a constant
-// wherever this is called, and the compiler writes the loop out.
+// The digits at the front of a text, if they are not more than so many.
 fn digits(text: &[u8], most: usize) -> DigitRun
     requires { ⌜ most ≤ mostDigits ⌝ }
     ensures { λ r. ⌜ RunRead (leb (length (front (now (text .entry)))) most) (now (text .entry)) r ⌝ }
@@ -108,6 +107,42 @@ fn digits(text: &[u8], most: usize) -> DigitRun
         return digits_within(text, most + 1);
     }
     digits_within(text, text.len())
+}
+
+// How many digits a number has at most, by the first: 0 has one, and no other number begins with it.
+fn most_digits(first: u64) -> usize
+    ensures { λ r. ⌜ (r ≡ mostFrom first) × (r ≤ mostDigits) ⌝ }
+{
+    if first == 0 {
+        return 1;
+    }
+    MOST_DIGITS
+}
+
+// More bytes than a number has digits stand in a text of this length from a place on.
+fn is_long(length: usize, at: usize) -> bool
+    ensures { λ r. ⌜ r ≡ ltb (at + mostDigits) «length» ⌝ }
+{
+    if length <= MOST_DIGITS {
+        return false;
+    }
+    at < length - MOST_DIGITS
+}
+
+// The number at the front of a text of so many bytes. It is read apart from that of a shorter text, since how far to read is
+// a constant here in each case, and the compiler writes the loop out.
+fn long_number(text: &[u8]) -> DigitRun
+    requires { ⌜ mostDigits < length (now text) ⌝ }
+    ensures { λ r. ⌜ RunRead (isNumber (front (now (text .entry)))) (now (text .entry)) r ⌝ }
+{
+    let first = digit(text[0]);
+    if first == 0 {
+        return digits_within(text, 2);
+    }
+    if first <= 9 {
+        return digits_within(text, MOST_DIGITS + 1);
+    }
+    DigitRun::Unended
 }
 
 // The letter table: how many numbers stand behind each letter, and 0 for any other byte.
@@ -154,11 +189,14 @@ impl Cursor {
         }
     }
 
-    // The digits that stand here, if they are a number: 0 has one digit, and no other number begins with it.
+    // The digits that stand here, if they are a number.
     fn run(self, text: &[u8]) -> DigitRun
         ensures { λ r. ⌜ NumberRead (now (text .entry)) self r ⌝ }
     {
         let at = self.at;
+        if is_long(text.len(), at) {
+            return long_number(&text[at..]);
+        }
         if text.len() <= at {
             return DigitRun::Unended;
         }
@@ -166,10 +204,8 @@ impl Cursor {
         if 9 < first {
             return DigitRun::Unended;
         }
-        if first == 0 {
-            return digits(&text[at..], 1);
-        }
-        digits(&text[at..], MOST_DIGITS)
+        let most = most_digits(first);
+        digits(&text[at..], most)
     }
 
     // The number that stands here and is ended by the byte `end`.

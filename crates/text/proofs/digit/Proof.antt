@@ -1,8 +1,5 @@
 -- `text::digit` meets its contract: the difference and 48 together are the byte, or they wrap, and then the difference is far
 -- above 9. Assumes nothing.
-use mathlib.Core.Bool.{true, false}
-use mathlib.Core.Path.{_≡_}
-use Prim.Native.Nat.{_≤_}
 use native.Mathlib.Omega.{arith}
 use Rattle.text.proofs.Numbers.{no-digit}
 use borrow.Author.Needs.{needs}
