@@ -1,5 +1,6 @@
 pub mod Places
 mod Left
 mod SoFar
+mod ColumnsSoFar
 pub mod Exactly
 mod Unique

@@ -42,21 +42,35 @@ pub record SoFar (t : Table) (numbers requests : List ℕ) (before : Standing) (
   pub counted : Counted before line
   pub to-check : check t ≡ takeFrom line stands (left t before)
 
-pub at-start : (t : Table) → SoFar t (replicate mostJobs 0) (replicate mostJobs 0) noneStanding 1
+-- Before the first record: nothing stands, and each column holds zeros.
+pub start-state : noneStanding ≡ standingOf nothing
+unfolding nothing
+start-state = refl
+
+pub start-rising : Rising (λ (j : Job). j .number) (nothing .records .jobs)
+unfolding nothing
+start-rising = no-element
+
+pub start-column : (f : Job → ℕ) → f noJob ≡ 0 → Filled f (nothing .records .jobs) (replicate mostJobs 0)
+unfolding nothing
+start-column f e = nothing-filled f e
+
+pub start-check : (t : Table) → check t ≡ takeFrom 1 nothing (left t noneStanding)
 unfolding nothing checkUpTo itemsOfUpTo speedItems jobItemsUpTo holdItems recordsOf left behindClock letterLeft
+start-check t = refl
+
+pub start-counted : Counted noneStanding 1
+start-counted = record { few = omega arith; at-clock = λ e. omega arith; behind-records = omega arith }
+
+abbrev pub at-start : (t : Table) → SoFar t (replicate mostJobs 0) (replicate mostJobs 0) noneStanding 1
 at-start t = record {
   stands = nothing;
-  state = refl;
-  rising = no-element;
-  number = nothing-filled (λ j. j .number) refl;
-  request = nothing-filled (λ j. j .request) refl;
-  counted =
-      record {
-        few = omega arith;
-        at-clock = λ e. omega arith;
-        behind-records = omega arith;
-      };
-  to-check = refl;
+  state = start-state;
+  rising = start-rising;
+  number = start-column (λ j. j .number) refl;
+  request = start-column (λ j. j .request) refl;
+  counted = start-counted;
+  to-check = start-check t;
 }
 
 pub item-of-record : (r : Record) → itemOf (parsedOf r) ≡ one r
@@ -76,7 +90,7 @@ state-after b (Record.H h) = sym (hold-after b h)
 counted-behind : {s : Standing} {line : ℕ} → Few s → line ≤ 2 + s .speeds + s .jobs + s .holds → s .begun ≡ true → Counted s line
 counted-behind few h begun = record { few = few; at-clock = λ e. absurd (false≢true (sym e ∙ begun)); behind-records = h }
 
-counted-after : (s : Standing) (r : Record) (line : ℕ) → Room s r → Counted s line → Counted (afterParsed s (parsedOf r)) (line + 1)
+pub counted-after : (s : Standing) (r : Record) (line : ℕ) → Room s r → Counted s line → Counted (afterParsed s (parsedOf r)) (line + 1)
 counted-after s (Record.T clock budget) line room c = counted-behind (c .few) (omega (arith, c .at-clock room)) refl
 counted-after s (Record.F f) line room c =
     let few = c .few in counted-behind (omega arith, few .1, few .2) (omega (arith, c .behind-records)) refl
@@ -146,18 +160,39 @@ module _ {t : Table} {numbers requests : List ℕ} {before : Standing} {line : �
       let some-speed = not-empty (so-far .stands .records .speeds) (omega (arith, ap (λ (s : Standing). s .speeds) (so-far .state))) in
       so-far .to-check ∙ rw (e, some-speed)
 
-  -- it is accepted
+  -- a record that is accepted, and a column with its field
+  module _ (r : Record) (comes : Comes t before r) where
+    pub stored : (f : Job → ℕ) (c : List ℕ) → Filled f (so-far .stands .records .jobs) c
+        → Filled f (added (so-far .stands .records) r .jobs) (storedIn f before (parsedOf r) c)
+    stored f c filled =
+        rw (so-far .state) (column-after f (so-far .stands) r c (rw (so-far .state) at (comes .room)) filled)
+
+    module _ (fault : faultOf (so-far .stands) r ≡ none) where
+      pub rising-with-it : Rising (λ (j : Job). j .number) (added (so-far .stands .records) r .jobs)
+      unfolding takeFromUpTo andThen acceptUpTo judged
+      rising-with-it =
+          let b = so-far .stands in
+          rising-after b r (accepted-exactly b r (withMore b r) .0 (rw fault) .0) (so-far .rising)
+
+      pub checked-with-it : check t ≡ takeFrom (line + 1) (withMore (so-far .stands) r) (left t (afterParsed before (parsedOf r)))
+      unfolding takeFromUpTo andThen acceptUpTo judged
+      checked-with-it = so-far .to-check ∙ rw (comes .first) (rw fault)
+
+      pub state-with-it : afterParsed before (parsedOf r) ≡ standingOf (withMore (so-far .stands) r)
+      state-with-it = rw (so-far .state) (state-after (so-far .stands) r)
+
+      abbrev pub with-it : SoFar t (storedIn (λ j. j .number) before (parsedOf r) numbers)
+          (storedIn (λ j. j .request) before (parsedOf r) requests) (afterParsed before (parsedOf r)) (line + 1)
+      with-it = record {
+        stands = withMore (so-far .stands) r;
+        state = state-with-it;
+        rising = rising-with-it;
+        number = stored (λ j. j .number) numbers (so-far .number);
+        request = stored (λ j. j .request) requests (so-far .request);
+        counted = counted-after before r line (comes .room) (so-far .counted);
+        to-check = checked-with-it;
+      }
+
   pub one-more : (r : Record) (p : Parsed) → p ≡ parsedOf r → Comes t before r → faultOf (so-far .stands) r ≡ none
       → SoFar t (storedIn (λ j. j .number) before p numbers) (storedIn (λ j. j .request) before p requests) (afterParsed before p) (line + 1)
-  unfolding takeFromUpTo andThen acceptUpTo judged
-  one-more r p e comes fault =
-      let b = so-far .stands in
-      rw e (record {
-        stands = withMore b r;
-        state = rw (so-far .state) (state-after b r);
-        rising = rising-after b r (accepted-exactly b r (withMore b r) .0 (rw fault) .0) (so-far .rising);
-        number = rw (so-far .state) (column-after (λ j. j .number) b r numbers (rw (so-far .state) at (comes .room)) (so-far .number));
-        request = rw (so-far .state) (column-after (λ j. j .request) b r requests (rw (so-far .state) at (comes .room)) (so-far .request));
-        counted = counted-after before r line (comes .room) (so-far .counted);
-        to-check = so-far .to-check ∙ rw (comes .first) (rw fault);
-      })
+  one-more r p e comes fault = rw e (with-it r comes fault)

@@ -2,17 +2,14 @@
 -- known by what it says, as it is beside a supplied table. Assumes nothing.
 use mathlib.Core.List.{[]}
 use mathlib.Core.Path.{_≡_, sym, ap, _∙_}
-use Rattle.checks.proofs.check_table.Reads.{Learnt}
 use Rattle.laws.proofs.Unique.{supplied-unique}
 use Rattle.rules.specs.declared.Supplied.{Supplied}
+use Rattle.checks.specs.Verdict.{CheckedInto}
+use Rattle.columns.specs.declared.Columns.{Columns}
 use Rattle.rules.specs.declared.Table.{Table}
 use Rattle.rules.specs.declared.Verdict.{Verdict}
 
--- what the promise tells a caller of a verdict
-abbrev pub Promised : Table → Verdict → Type 0
-Promised t r = Learnt _ (t, tt) r (t, tt)
-
-pub unique : (t : Table) (r s : Verdict) → Promised t r → Promised t s → r ≡ s
-unique t r s p q =
+pub unique : (t : Table) (c d : Columns) (r s : Verdict) → CheckedInto t c r → CheckedInto t d s → r ≡ s
+unique t c d r s p q =
     ap (λ (a : Supplied). a .verdict)
-    (supplied-unique (record { verdict = r; costs = [] }) (record { verdict = s; costs = [] }) (p ∙ sym q))
+    (supplied-unique (record { verdict = r; costs = [] }) (record { verdict = s; costs = [] }) (p .verdict ∙ sym (q .verdict)))

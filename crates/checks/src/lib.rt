@@ -9,9 +9,7 @@ use rules::Table;
 use rules::Verdict;
 use text::Parsed;
 ghost use mathlib.Core.Bool.{cond};
-ghost use mathlib.Core.List.{[]};
 ghost use mathlib.Core.Path.{_≡_};
-ghost use Rattle.rules.specs.Answers.{verdictSays};
 ghost use Prim.Native.Nat.{_≤_};
 ghost use Rattle.lines.specs.Step.{Noted, faultIn};
 ghost use Rattle.records.specs.Faults.{faultSays};
@@ -20,7 +18,8 @@ ghost use Rattle.rules.specs.TableText.{mostJobs};
 ghost use Rattle.text.specs.Lines.{itemOf};
 ghost use Rattle.checks.specs.Left.{Few, NextIs};
 ghost use Rattle.checks.specs.declared.Next.{Next};
-ghost use Rattle.checks.specs.Verdict.{checkSays};
+ghost use Rattle.checks.specs.Verdict.{AllZero, CheckedInto};
+ghost use Rattle.columns.specs.Columns.{besides};
 
 // What comes next of a table: a record, by its letter and its place; a refusal, where there is no F, or of the first record
 // beyond the places; or nothing.
@@ -94,13 +93,21 @@ fn judge_record<'a>(
     }
 }
 
-// Whether a table's records are valid and within its places, or else the first refusal, 2 to 7, and its line. A table given
-// to a function is copied, so that the loop itself reads the records.
-pub fn check_table(table: Table) -> Verdict
-    ensures { λ r. ⌜ verdictSays r [] ≡ checkSays (check table) ⌝ }
+// Whether a table's records are valid and within its places, or else the first refusal, 2 to 7, and its line. The jobs are put, as
+// they are accepted, into lent columns of zeros: an H line's job is looked up there, and who plans the table goes on with them. So
+// a table is gone through once, and copied once: given to a function it is copied, so that the loop itself reads the records.
+pub fn check_table(
+    number: &mut [u64; MOST_JOBS],
+    cycles: &mut [u64; MOST_JOBS],
+    worth: &mut [u64; MOST_JOBS],
+    critical: &mut [u64; MOST_JOBS],
+    termination: &mut [u64; MOST_JOBS],
+    request: &mut [u64; MOST_JOBS],
+    table: Table,
+) -> Verdict
+    requires { ⌜ AllZero (besides (now number) (now cycles) (now worth) (now critical) (now termination) (now request)) ⌝ }
+    ensures { λ r. ⌜ CheckedInto table (besides (now (number .exit)) (now (cycles .exit)) (now (worth .exit)) (now (critical .exit)) (now (termination .exit)) (now (request .exit))) r ⌝ }
 {
-    let mut numbers = [0u64; MOST_JOBS];
-    let mut requests = [0u64; MOST_JOBS];
     let mut before = records::none_standing();
     let mut line: u64 = 1;
     loop {
@@ -113,7 +120,7 @@ pub fn check_table(table: Table) -> Verdict
             Next::Bad(why) => return Verdict::Refused(why, line),
             Next::End => return Verdict::Done,
         };
-        let judgement = judge_record(before, parsed, &numbers, &requests);
+        let judgement = judge_record(before, parsed, number, request);
         if let Judgement::Bad(why) = judgement {
             return Verdict::Refused(why, line);
         }
@@ -121,8 +128,12 @@ pub fn check_table(table: Table) -> Verdict
         before = lines::standing_after(before, parsed);
         line += 1;
         if let Parsed::Job(job) = parsed {
-            numbers[n] = job.number;
-            requests[n] = job.request;
+            number[n] = job.number;
+            cycles[n] = job.cycles;
+            worth[n] = job.worth;
+            critical[n] = job.critical;
+            termination[n] = job.termination;
+            request[n] = job.request;
         }
     }
 }

@@ -13,7 +13,7 @@ use Rattle.plans.specs.Promises.{Plannable}
 use Rattle.rules.specs.Answers.{verdictSays}
 use Rattle.rules.specs.Plan.{takenWith, tooSmall, tooSmallUpTo}
 use Rattle.rules.specs.Refusals.{Taken, check, refusedAt, taken}
-use Rattle.rules.specs.TableText.{isBudget, mostJobs, recordsOf, withBudget}
+use Rattle.rules.specs.TableText.{isBudget, mostJobs, recordsOf, tableWithBudget, withBudget}
 use Rattle.rules.specs.declared.Refusal.{Refusal}
 use Rattle.rules.specs.declared.Table.{Table}
 use Rattle.rules.specs.declared.Verdict.{Verdict}
@@ -47,6 +47,11 @@ plannable table budget h e =
       few-jobs = fits .jobs-fit;
       few-holds = fits .holds-fit;
     }
+
+-- the table's records with the budget beside it
+pub with-budget : (table : Table) (budget : ℕ) → recordsOf (tableWithBudget table budget) ≡ withBudget (recordsOf table) budget
+unfolding recordsOf
+with-budget table budget = refl
 
 -- what is answered of what was taken, and where it is refused
 module _ {A : Type 0} (answers : Taken → A) (refusing : Refusal → ℕ → A)

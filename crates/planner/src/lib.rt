@@ -48,11 +48,43 @@ pub fn plan_into(table: Table, budget: u64, order: &mut [u64], fates: &mut [u64]
     if let Verdict::Refused(why, line) = asked {
         return Decision::Refused(why, line);
     }
-    let checked = check_table(table);
+    let mut number = [0; MOST_JOBS];
+    let mut cycles = [0; MOST_JOBS];
+    let mut worth = [0; MOST_JOBS];
+    let mut critical = [0; MOST_JOBS];
+    let mut termination = [0; MOST_JOBS];
+    let mut request = [0; MOST_JOBS];
+    let checked = check_table(
+        &mut number,
+        &mut cycles,
+        &mut worth,
+        &mut critical,
+        &mut termination,
+        &mut request,
+        table,
+    );
     if let Verdict::Refused(bad, at) = checked {
         return Decision::Refused(bad, at);
     }
-    plan_table(table, budget, order, fates)
+    let speeds = table.speeds;
+    let holds = table.holds;
+    plan_table(
+        table.clock,
+        budget,
+        speeds,
+        table.speed_count,
+        holds,
+        table.hold_count,
+        table.job_count,
+        &number,
+        &cycles,
+        &worth,
+        &critical,
+        &termination,
+        &request,
+        order,
+        fates,
+    )
 }
 
 // The plan as document 01 hands it back: the front part of the order buffer, as long as the plan.
@@ -76,9 +108,41 @@ pub fn rooms(table: Table, budget: u64, turns: &mut [u64], rooms: &mut [u64]) ->
     if let Verdict::Refused(why, line) = asked {
         return Panel::Refused(why, line);
     }
-    let checked = check_table(table);
+    let mut number = [0; MOST_JOBS];
+    let mut cycles = [0; MOST_JOBS];
+    let mut worth = [0; MOST_JOBS];
+    let mut critical = [0; MOST_JOBS];
+    let mut termination = [0; MOST_JOBS];
+    let mut request = [0; MOST_JOBS];
+    let checked = check_table(
+        &mut number,
+        &mut cycles,
+        &mut worth,
+        &mut critical,
+        &mut termination,
+        &mut request,
+        table,
+    );
     if let Verdict::Refused(bad, at) = checked {
         return Panel::Refused(bad, at);
     }
-    rooms_of(table, budget, turns, rooms)
+    let speeds = table.speeds;
+    let holds = table.holds;
+    rooms_of(
+        table.clock,
+        budget,
+        speeds,
+        table.speed_count,
+        holds,
+        table.hold_count,
+        table.job_count,
+        &number,
+        &cycles,
+        &worth,
+        &critical,
+        &termination,
+        &request,
+        turns,
+        rooms,
+    )
 }

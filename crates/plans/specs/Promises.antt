@@ -14,8 +14,8 @@ use Rattle.entries.specs.Promises.{cyclesAt}
 use Rattle.laws.specs.Pairs.{among}
 use Rattle.plans.specs.Courses.{CourseLeft, DecisionLeft, FatesByTurn, Turns, courseBy, jobAt, roomBy}
 use Rattle.rules.specs.Answers.{decisionSays, panelSays}
-use Rattle.rules.specs.Plan.{AfterPlanning, Course, chainOf, courseOf, cyclesOf, fateIn, fatePlanned, inPlan, planOf, ratioOf, runOrder}
-use Rattle.rules.specs.Rooms.{AfterRooms, TurnRoom, roomsOf}
+use Rattle.rules.specs.Plan.{AfterPlanning, Course, chainOf, courseOf, cyclesOf, fateIn, fatePlanned, inPlan, leavesPlan, planOf, ratioOf, runOrder}
+use Rattle.rules.specs.Rooms.{AfterRooms, TurnRoom, leavesRooms, roomsOf}
 use Rattle.rules.specs.TableText.{Records, mostHolds, mostJobs, mostSpeeds, noSpeed, recordsOf, withBudget}
 use Rattle.rules.specs.Valid.{Valid}
 use Rattle.rules.specs.declared.Decision.{Decision}
@@ -230,3 +230,16 @@ leaves d order fates = record { answer = decisionSays d; order = order; fates = 
 -- the panel's answer beside what both buffers hold
 abbrev pub tells : Panel → List ℕ → List ℕ → AfterRooms
 tells a turns rooms = record { answer = panelSays a; turns = turns; rooms = rooms }
+
+-- The plan of each table of these parts, told in both buffers; and its rooms.
+abbrev pub LeavesPlanOf : (clock budget : ℕ) (speeds : List Speed) (speed-count : ℕ) (holds : List Hold) (hold-count job-count : ℕ)
+    → Columns → (order fates : List ℕ) → AfterPlanning → Type 0
+LeavesPlanOf clock budget speeds speed-count holds hold-count job-count columns order fates after =
+    (jobs : List Job) → PlannableBy (assembled clock budget speeds speed-count holds hold-count job-count jobs) columns
+    → after ≡ leavesPlan (planOf (recordsOf (assembled clock budget speeds speed-count holds hold-count job-count jobs))) order fates
+
+abbrev pub LeavesRoomsOf : (clock budget : ℕ) (speeds : List Speed) (speed-count : ℕ) (holds : List Hold) (hold-count job-count : ℕ)
+    → Columns → (turns rooms : List ℕ) → AfterRooms → Type 0
+LeavesRoomsOf clock budget speeds speed-count holds hold-count job-count columns turns rooms after =
+    (jobs : List Job) → PlannableBy (assembled clock budget speeds speed-count holds hold-count job-count jobs) columns
+    → after ≡ leavesRooms (recordsOf (assembled clock budget speeds speed-count holds hold-count job-count jobs)) turns rooms

@@ -4,7 +4,6 @@ use chains::RESOURCES;
 use chains::deadlines;
 use chains::holders;
 use columns::Terms;
-use columns::columns_of;
 use entries::NOT_PLANNED;
 use filling::clear_behind;
 use filling::note;
@@ -23,7 +22,6 @@ use rules::MOST_SPEEDS;
 use rules::NO_FATE;
 use rules::Panel;
 use rules::Speed;
-use rules::Table;
 use speeds::choose_speed;
 use trials::JobInTurn;
 use trials::Totals;
@@ -33,10 +31,8 @@ ghost use Prim.Native.Nat.{_-_, _*_, _≤_};
 ghost use lib.ListN.{length};
 ghost use Rattle.columns.specs.Columns.{AllBelow, besides};
 ghost use Rattle.plans.specs.Courses.{courseLeft, decisionLeft, turnsBy};
-ghost use Rattle.plans.specs.Promises.{Concludable, Concluded, CourseNoted, CourseRun, CourseRunnable, Decidable, Decides, DecisionNoted, Marked, Plannable, Takeable, TurnNoted, TurnsNoted, TurnsTaken, Whole, leaves, tells, termsBy};
-ghost use Rattle.rules.specs.Plan.{leavesPlan, planOf};
-ghost use Rattle.rules.specs.Rooms.{leavesRooms};
-ghost use Rattle.rules.specs.TableText.{mostJobs, mostSpeeds, recordsOf, withBudget};
+ghost use Rattle.plans.specs.Promises.{Concludable, Concluded, CourseNoted, CourseRun, CourseRunnable, Decidable, Decides, DecisionNoted, LeavesPlanOf, LeavesRoomsOf, Marked, Takeable, TurnNoted, TurnsNoted, TurnsTaken, Whole, leaves, tells, termsBy};
+ghost use Rattle.rules.specs.TableText.{mostJobs, mostSpeeds};
 ghost use Rattle.trials.specs.Promises.{columnsRead};
 
 // What the course of turns leaves beside the plan's places and the fate that each job's own turn gave, which stand in lent
@@ -84,10 +80,11 @@ fn note_turn(
 }
 
 // Step 5, "Turns": each of these jobs in its turn, from the empty plan. Its fate is put over that of steps 1 and 2, which is 0, and
-// the turn is noted.
+// the turn is noted. The ends are lent to be written over.
 fn take_turns<'a>(
     places: &mut [u64; MOST_JOBS],
     fates: &mut [u64; MOST_JOBS],
+    ends: &mut [u64; MOST_JOBS],
     turns: &'a [u64; MOST_JOBS],
     turn_count: usize,
     over: &'a [u64; MOST_JOBS],
@@ -99,14 +96,13 @@ fn take_turns<'a>(
     order: &mut [u64],
     rooms: &mut [u64],
 ) -> Totals
-    requires { ⌜ (length (now places) ≡ mostJobs) × Takeable (turnsBy (now turns) «turn_count») (now over) (columnsRead (now waits) (now critical) (now cycles) (now deadline)) (now fates) terms ⌝ }
+    requires { ⌜ (length (now places) ≡ mostJobs) × (length (now ends) ≡ mostJobs) × Takeable (turnsBy (now turns) «turn_count») (now over) (columnsRead (now waits) (now critical) (now cycles) (now deadline)) (now fates) terms ⌝ }
     ensures { λ r. ⌜
         TurnsTaken (turnsBy (now (turns .entry)) «turn_count») (now (over .entry)) (columnsRead (now (waits .entry)) (now (critical .entry)) (now (cycles .entry)) (now (deadline .entry))) (now (fates .entry)) terms (courseLeft (now (places .exit)) (now (fates .exit)) r «turn_count»)
         × TurnsNoted «turn_count» (turnsBy (now (turns .entry)) «turn_count») (now (over .entry)) (columnsRead (now (waits .entry)) (now (critical .entry)) (now (cycles .entry)) (now (deadline .entry))) (now (fates .entry)) terms (now (order .entry)) (now (rooms .entry)) (now (order .exit)) (now (rooms .exit))
         ⌝ }
 {
     let mut keys = [NOT_PLANNED; MOST_JOBS];
-    let mut ends = [0; MOST_JOBS];
     let mut latests = [0; MOST_JOBS];
     let mut changed = [0; MOST_CHANGES];
     let mut fresh = [0; MOST_CHANGES];
@@ -124,7 +120,7 @@ fn take_turns<'a>(
         let turned = turn(
             places,
             &mut keys,
-            &mut ends,
+            ends,
             &mut latests,
             &mut changed,
             &mut fresh,
@@ -158,7 +154,8 @@ fn mark_planned(fates: &mut [u64; MOST_JOBS], places: &[u64])
 }
 
 // Steps 1 to 7: the course of all turns, noted as `take_turns` notes it. The columns are lent one by one: by value they would be
-// copied once more.
+// copied once more. Two are lent twice, for they need not be filled anew: that of the turns first for marks, and that of the
+// chains' cycles, once the turns are in order, for the ends.
 pub fn course_of<'a>(
     places: &mut [u64; MOST_JOBS],
     fates: &mut [u64; MOST_JOBS],
@@ -184,9 +181,11 @@ pub fn course_of<'a>(
     let mut holder_at = [NOBODY; RESOURCES];
     holders(&mut holder_at, holds, hold_count, number, jobs);
     let mut waits = [0; MOST_JOBS];
+    let mut turns = [0; MOST_JOBS];
     take_out(
         fates,
         &mut waits,
+        &mut turns,
         &holder_at,
         number,
         cycles,
@@ -209,11 +208,11 @@ pub fn course_of<'a>(
         &deadline,
         jobs,
     );
-    let mut turns = [0; MOST_JOBS];
     let turn_count = turn_order(&mut turns, fates, number, &over, &under, jobs);
     let totals = take_turns(
         places,
         fates,
+        &mut under,
         &turns,
         turn_count,
         &over,
@@ -346,14 +345,27 @@ pub fn decide<'a>(
     )
 }
 
-// The planner on a valid table, with the budget beside it: the decision, and both buffers whole.
-pub fn plan_table(table: Table, budget: u64, order: &mut [u64], fates: &mut [u64]) -> Decision
-    requires { ⌜ Plannable table budget × (mostJobs ≤ length (now order)) × (mostJobs ≤ length (now fates)) ⌝ }
-    ensures { λ r. ⌜ leaves r (now (order .exit)) (now (fates .exit)) ≡ leavesPlan (planOf (withBudget (recordsOf table) budget)) (now (order .entry)) (now (fates .entry)) ⌝ }
+// The planner on the parts of a valid table, its columns lent: the decision, and both buffers whole.
+pub fn plan_table<'a>(
+    clock: u64,
+    budget: u64,
+    speeds: [Speed; MOST_SPEEDS],
+    speed_count: usize,
+    holds: [Hold; MOST_HOLDS],
+    hold_count: usize,
+    job_count: usize,
+    number: &'a [u64; MOST_JOBS],
+    cycles: &'a [u64; MOST_JOBS],
+    worth: &'a [u64; MOST_JOBS],
+    critical: &'a [u64; MOST_JOBS],
+    termination: &'a [u64; MOST_JOBS],
+    request: &'a [u64; MOST_JOBS],
+    order: &mut [u64],
+    fates: &mut [u64],
+) -> Decision
+    requires { ⌜ Decidable clock budget speeds «speed_count» holds «hold_count» «job_count» (besides (now number) (now cycles) (now worth) (now critical) (now termination) (now request)) × (mostJobs ≤ length (now order)) × (mostJobs ≤ length (now fates)) ⌝ }
+    ensures { λ r. ⌜ LeavesPlanOf clock budget speeds «speed_count» holds «hold_count» «job_count» (besides (now (number .entry)) (now (cycles .entry)) (now (worth .entry)) (now (critical .entry)) (now (termination .entry)) (now (request .entry))) (now (order .entry)) (now (fates .entry)) (leaves r (now (order .exit)) (now (fates .exit))) ⌝ }
 {
-    let columns = columns_of(table);
-    let speeds = table.speeds;
-    let holds = table.holds;
     let mut no_order = [0; 0];
     let mut no_rooms = [0; 0];
     let mut places = [0; MOST_JOBS];
@@ -361,24 +373,24 @@ pub fn plan_table(table: Table, budget: u64, order: &mut [u64], fates: &mut [u64
     let decided = decide(
         &mut places,
         &mut by_job,
-        table.clock,
+        clock,
         budget,
         speeds,
-        table.speed_count,
+        speed_count,
         holds,
-        table.hold_count,
-        table.job_count,
-        &columns.number,
-        &columns.cycles,
-        &columns.worth,
-        &columns.critical,
-        &columns.termination,
-        &columns.request,
+        hold_count,
+        job_count,
+        number,
+        cycles,
+        worth,
+        critical,
+        termination,
+        request,
         &mut no_order,
         &mut no_rooms,
     );
-    put_order(order, &places[..decided.count], &columns.number);
-    put_fates(fates, &by_job[..table.job_count]);
+    put_order(order, &places[..decided.count], number);
+    put_fates(fates, &by_job[..job_count]);
     Decision::Plan {
         count: decided.count,
         speed: decided.speed.mhz,
@@ -386,46 +398,53 @@ pub fn plan_table(table: Table, budget: u64, order: &mut [u64], fates: &mut [u64
     }
 }
 
-// The rooms of a valid table, with the budget beside it: the panel's answer, and both buffers whole.
-pub fn rooms_of(table: Table, budget: u64, turns: &mut [u64], rooms: &mut [u64]) -> Panel
-    requires { ⌜ Plannable table budget × (mostJobs ≤ length (now turns)) × (mostJobs ≤ length (now rooms)) ⌝ }
-    ensures { λ r. ⌜ tells r (now (turns .exit)) (now (rooms .exit)) ≡ leavesRooms (withBudget (recordsOf table) budget) (now (turns .entry)) (now (rooms .entry)) ⌝ }
+// The rooms of the parts of a valid table: the panel's answer, and both buffers whole.
+pub fn rooms_of<'a>(
+    clock: u64,
+    budget: u64,
+    speeds: [Speed; MOST_SPEEDS],
+    speed_count: usize,
+    holds: [Hold; MOST_HOLDS],
+    hold_count: usize,
+    job_count: usize,
+    number: &'a [u64; MOST_JOBS],
+    cycles: &'a [u64; MOST_JOBS],
+    worth: &'a [u64; MOST_JOBS],
+    critical: &'a [u64; MOST_JOBS],
+    termination: &'a [u64; MOST_JOBS],
+    request: &'a [u64; MOST_JOBS],
+    turns: &mut [u64],
+    rooms: &mut [u64],
+) -> Panel
+    requires { ⌜ Decidable clock budget speeds «speed_count» holds «hold_count» «job_count» (besides (now number) (now cycles) (now worth) (now critical) (now termination) (now request)) × (mostJobs ≤ length (now turns)) × (mostJobs ≤ length (now rooms)) ⌝ }
+    ensures { λ r. ⌜ LeavesRoomsOf clock budget speeds «speed_count» holds «hold_count» «job_count» (besides (now (number .entry)) (now (cycles .entry)) (now (worth .entry)) (now (critical .entry)) (now (termination .entry)) (now (request .entry))) (now (turns .entry)) (now (rooms .entry)) (tells r (now (turns .exit)) (now (rooms .exit))) ⌝ }
 {
-    let columns = columns_of(table);
-    let speeds = table.speeds;
-    let holds = table.holds;
     let mut order = [0; MOST_JOBS];
     let mut places = [0; MOST_JOBS];
     let mut by_job = [NO_FATE; MOST_JOBS];
     let decided = decide(
         &mut places,
         &mut by_job,
-        table.clock,
+        clock,
         budget,
         speeds,
-        table.speed_count,
+        speed_count,
         holds,
-        table.hold_count,
-        table.job_count,
-        &columns.number,
-        &columns.cycles,
-        &columns.worth,
-        &columns.critical,
-        &columns.termination,
-        &columns.request,
+        hold_count,
+        job_count,
+        number,
+        cycles,
+        worth,
+        critical,
+        termination,
+        request,
         &mut order,
         rooms,
     );
     let count = decided.turns;
-    put_order(turns, &order[..count], &columns.number);
+    put_order(turns, &order[..count], number);
     clear_behind(rooms, count);
-    let terms = terms_of(
-        table.clock,
-        budget,
-        speeds,
-        table.speed_count,
-        table.job_count,
-    );
+    let terms = terms_of(clock, budget, speeds, speed_count, job_count);
     Panel::Told {
         turns: count,
         room: room_left(decided.cycles, terms),

@@ -113,20 +113,21 @@ fn ring_fate<'a>(
     NO_FATE
 }
 
-// Step 2, "On each ring": to the fates of step 1, 3 at the place of each job that leaves its ring.
+// Step 2, "On each ring": to the fates of step 1, 3 at the place of each job that leaves its ring. The marks may stand anyhow before:
+// a mark too many only has a chain walked.
 fn ring_fates<'a>(
     fates: &mut [u64; MOST_JOBS],
+    marks: &mut [u64; MOST_JOBS],
     waits: &'a [u64; MOST_JOBS],
     number: &'a [u64; MOST_JOBS],
     worth: &'a [u64; MOST_JOBS],
     cycles: &'a [u64; MOST_JOBS],
     job_count: usize,
 )
-    requires { ⌜ (length (now fates) ≡ mostJobs) × («job_count» ≤ mostJobs) × AtMost mostWorth (now worth) × AtMost mostCycles (now cycles) ⌝ }
-    ensures { λ _. ⌜ RingFates (now (fates .entry)) (now (waits .entry)) (now (number .entry)) (now (worth .entry)) (now (cycles .entry)) «job_count» (now (fates .exit)) ⌝ }
+    requires { ⌜ (length (now fates) ≡ mostJobs) × (length (now marks) ≡ mostJobs) × («job_count» ≤ mostJobs) × AtMost mostWorth (now worth) × AtMost mostCycles (now cycles) ⌝ }
+    ensures { λ _. ⌜ (length (now (marks .exit)) ≡ mostJobs) × RingFates (now (fates .entry)) (now (waits .entry)) (now (number .entry)) (now (worth .entry)) (now (cycles .entry)) «job_count» (now (fates .exit)) ⌝ }
 {
-    let mut marks = [0; MOST_JOBS];
-    mark_awaited(&mut marks, waits, job_count);
+    mark_awaited(marks, waits, job_count);
     let mut i = 0;
     while i < job_count {
         let fate = ring_fate(fates[i], marks[i], i, waits, number, worth, cycles);
@@ -136,10 +137,11 @@ fn ring_fates<'a>(
 }
 
 // Steps 1 and 2: a fate for each job taken out, 0 for the others, and whom each job waits for among the others. It is looked up
-// twice: among the timely, to find the rings, and among those that step 2 leaves.
+// twice: among the timely, to find the rings, and among those that step 2 leaves. The marks are lent to be written over.
 pub fn take_out<'a>(
     fates: &mut [u64; MOST_JOBS],
     waits: &mut [u64; MOST_JOBS],
+    marks: &mut [u64; MOST_JOBS],
     holder_at: &'a [u64; RESOURCES],
     number: &'a [u64; MOST_JOBS],
     cycles: &'a [u64; MOST_JOBS],
@@ -148,11 +150,11 @@ pub fn take_out<'a>(
     request: &'a [u64; MOST_JOBS],
     terms: Terms,
 )
-    requires { ⌜ Stageable (now fates) (now waits) (now cycles) (now worth) (now termination) (now request) terms ⌝ }
-    ensures { λ _. ⌜ Staged (now («holder_at» .entry)) (now (number .entry)) (now (cycles .entry)) (now (worth .entry)) (now (termination .entry)) (now (request .entry)) terms (now (fates .exit)) (now (waits .exit)) ⌝ }
+    requires { ⌜ (length (now marks) ≡ mostJobs) × Stageable (now fates) (now waits) (now cycles) (now worth) (now termination) (now request) terms ⌝ }
+    ensures { λ _. ⌜ (length (now (marks .exit)) ≡ mostJobs) × Staged (now («holder_at» .entry)) (now (number .entry)) (now (cycles .entry)) (now (worth .entry)) (now (termination .entry)) (now (request .entry)) terms (now (fates .exit)) (now (waits .exit)) ⌝ }
 {
     late_fates(fates, cycles, termination, terms);
     waits_column(waits, request, holder_at, fates, terms.job_count);
-    ring_fates(fates, waits, number, worth, cycles, terms.job_count);
+    ring_fates(fates, marks, waits, number, worth, cycles, terms.job_count);
     waits_column(waits, request, holder_at, fates, terms.job_count);
 }

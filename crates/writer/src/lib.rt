@@ -1,8 +1,10 @@
 // Writes a table as text into a lent buffer: first the check of the records, then the length of the text and the room, then
 // the lines, one after the other by their index.
+use checks::check_table;
 use rules::Hold;
 use rules::Job;
 use rules::MOST_FIELDS;
+use rules::MOST_JOBS;
 use rules::Refusal;
 use rules::Speed;
 use rules::Table;
@@ -160,7 +162,21 @@ fn put_text(table: Table, out: &mut [u8]) -> usize
 pub fn write(table: Table, out: &mut [u8]) -> Written
     ensures { λ r. ⌜ WrittenAs table (now (out .entry)) (now (out .exit)) r ⌝ }
 {
-    let verdict = checks::check_table(table);
+    let mut number = [0; MOST_JOBS];
+    let mut cycles = [0; MOST_JOBS];
+    let mut worth = [0; MOST_JOBS];
+    let mut critical = [0; MOST_JOBS];
+    let mut termination = [0; MOST_JOBS];
+    let mut request = [0; MOST_JOBS];
+    let verdict = check_table(
+        &mut number,
+        &mut cycles,
+        &mut worth,
+        &mut critical,
+        &mut termination,
+        &mut request,
+        table,
+    );
     if let Verdict::Refused(why, line) = verdict {
         return Written::Refused(why, line);
     }

@@ -24,7 +24,7 @@ abbrev staged : tie.After-deadlines → tie.After-take-out
 staged c = c .before .before
 
 abbrev held : tie.After-take-out → tie.After-holders
-held c = c .before .before .before .before
+held c = c .before .before .before .before .before
 
 abbrev started : tie.After-holders → tie.Start
 started c = c .before .before .before .before
@@ -39,15 +39,17 @@ holders-requires c κs = (refl, c .before .before .before .pre .1 .holdable)
 
 take-out-requires : tie.Need-take-out-requires
 take-out-requires c κs =
-    let pre = started (c .before .before .before) .pre in
-    record {
-      fates-whole = pre .0 .fates-whole;
-      waits-whole = refl;
-      runs-small = record { cycles-small = pre .1 .columns-small .cycles; termination-small = pre .1 .columns-small .termination };
-      worth-small = pre .1 .columns-small .worth;
-      request-small = pre .1 .columns-small .request;
-      terms-small = pre .1 .terms-small;
-    }
+    let pre = started (c .before .before .before .before) .pre in (
+      refl,
+      record {
+        fates-whole = pre .0 .fates-whole;
+        waits-whole = refl;
+        runs-small = record { cycles-small = pre .1 .columns-small .cycles; termination-small = pre .1 .columns-small .termination };
+        worth-small = pre .1 .columns-small .worth;
+        request-small = pre .1 .columns-small .request;
+        terms-small = pre .1 .terms-small;
+      },
+    )
 
 deadlines-requires : tie.Need-deadlines-requires
 deadlines-requires c κs =
@@ -60,7 +62,7 @@ stage-of c =
     let start = started (held c) in
     let of = start .pre .1 .of-table in
     staged-by (start .args .holds) (start .args .hold-count) (columns start) (start .args .terms) (held c .holders .ensures)
-    (c .take-out .ensures) (start .pre .1 .table) (of .valid) (of .terms-of) (of .holds-of) (of .columns-of)
+    (c .take-out .ensures .1) (start .pre .1 .table) (of .valid) (of .terms-of) (of .holds-of) (of .columns-of)
 
 chain-ratios-requires : tie.Need-chain-ratios-requires
 chain-ratios-requires c κs =
@@ -85,7 +87,7 @@ slice-aggregate-turn-order c = search needs
 turn-order-requires : tie.Need-turn-order-requires
 turn-order-requires c κs =
     let told = c .before .before .before .before in (
-      refl,
+      staged (due told) .take-out .ensures .0,
       record {
         few-jobs = started (held (staged (due told))) .pre .1 .terms-small .job-count;
         small = told .chain-ratios .ensures .small;
@@ -97,7 +99,7 @@ below-most n m xs h below i l = omega (arith, below i l)
 
 take-turns-requires : tie.Need-take-turns-requires
 take-turns-requires c κs =
-    let ordered = c .before .before .before .before .before .before .before .before .before in
+    let ordered = c .before .before .before .before .before .before .before .before .before .before in
     let told = ranked ordered in
     let left = staged (due told) in
     let start = started (held left) in
@@ -106,9 +108,10 @@ take-turns-requires c κs =
     let in-order = ordered .turn-order .ensures in
     let few-jobs = pre .terms-small .job-count in (
       start .pre .0 .places-whole,
+      told .chain-ratios .ensures .under-whole,
       record {
         order-whole = in-order .whole;
-        fates-whole = left .take-out .ensures .fates-whole;
+        fates-whole = left .take-out .ensures .1 .fates-whole;
         few-turns = omega (arith, in-order .few, few-jobs);
         below = below-most _ _ (take (ordered .turn-order .result) (ordered .turn-order .last .0)) few-jobs (in-order .below);
         columns-small =
@@ -122,7 +125,7 @@ take-turns-requires c κs =
         of-table =
             turns-of (start .args .holds) (start .args .hold-count) (columns start) (start .args .terms)
             (turnsBy (ordered .turn-order .last .0) (ordered .turn-order .result)) (held left .holders .ensures)
-            (left .take-out .ensures) (due told .deadlines .ensures) (told .chain-ratios .ensures) in-order (pre .table)
+            (left .take-out .ensures .1) (due told .deadlines .ensures) (told .chain-ratios .ensures) in-order (pre .table)
             (of .valid) (of .terms-of) (of .holds-of) (of .columns-of) .0;
       },
     )
@@ -136,17 +139,17 @@ same-length-2 c = c .before .before .before .before .take-turns .ensures .1 .roo
 returns : tie.Need-returns
 returns c =
     let taken = c .before .before .before .before in
-    let ordered = taken .before .before .before .before .before .before .before .before .before .before in
+    let ordered = taken .before .before .before .before .before .before .before .before .before .before .before in
     let told = ranked ordered in
     let left = staged (due told) in
     let start = started (held left) in
     let args = start .args in
     let turns = turnsBy (ordered .turn-order .last .0) (ordered .turn-order .result) in (
       steps-1-to-7 (args .holds) (args .hold-count) (columns start) (args .terms) turns (held left .holders .ensures)
-          (left .take-out .ensures) (due told .deadlines .ensures) (told .chain-ratios .ensures) (ordered .turn-order .ensures)
+          (left .take-out .ensures .1) (due told .deadlines .ensures) (told .chain-ratios .ensures) (ordered .turn-order .ensures)
           _ (taken .take-turns .ensures .0),
       turns-noted (args .holds) (args .hold-count) (columns start) (args .terms) turns (held left .holders .ensures)
-          (left .take-out .ensures) (due told .deadlines .ensures) (told .chain-ratios .ensures) (ordered .turn-order .ensures)
+          (left .take-out .ensures .1) (due told .deadlines .ensures) (told .chain-ratios .ensures) (ordered .turn-order .ensures)
           (args .order .now) (args .rooms .now) _ _
           (omega (arith, ordered .turn-order .ensures .few, start .pre .1 .terms-small .job-count))
           (taken .take-turns .ensures .1),

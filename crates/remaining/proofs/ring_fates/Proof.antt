@@ -39,14 +39,14 @@ module _ (late marks waits number worth cycles : List ℕ) where
   }
 
 abbrev Inv-loop : tie.InvT-loop
-Inv-loop fates₀ waits number worth cycles job-count marks i₀ fates i =
+Inv-loop fates₀ marks waits number worth cycles job-count i₀ fates i =
     FilledTo (FateAt fates₀ marks waits number worth cycles) i fates × StillLate fates₀ i fates × Awaited waits job-count marks
 
 abbrev μ-loop : tie.MeasureT-loop
-μ-loop fates₀ waits number worth cycles job-count marks i₀ fates i = mostJobs - i
+μ-loop fates₀ marks waits number worth cycles job-count i₀ fates i = mostJobs - i
 
 mark-awaited-requires : tie.Need-mark-awaited-requires Inv-loop μ-loop
-mark-awaited-requires c κs = (c .before .pre .1, refl)
+mark-awaited-requires c κs = (c .before .pre .2, c .before .pre .1)
 
 loop-holds : tie.Need-loop-holds Inv-loop μ-loop
 loop-holds c =
@@ -61,12 +61,12 @@ element-copy-out-ring-fate c = search needs
 mul-ring-fate-2 : tie.Need-mul-ring-fate-2 Inv-loop μ-loop
 mul-ring-fate-2 c = search needs
 
-array-read-ring-fate : tie.Need-array-read-ring-fate Inv-loop μ-loop
-array-read-ring-fate c = search needs
+element-copy-out-ring-fate-2 : tie.Need-element-copy-out-ring-fate-2 Inv-loop μ-loop
+element-copy-out-ring-fate-2 c = search needs
 
 ring-fate-requires : tie.Need-ring-fate-requires Inv-loop μ-loop
 ring-fate-requires c κs =
-    let start = c .before .before .before .before .before in (omega arith, start .pre .2, start .pre .3)
+    let start = c .before .before .before .before .before .before in (omega arith, start .pre .3, start .pre .4)
 
 mul-fates : tie.Need-mul-fates Inv-loop μ-loop
 mul-fates c = search needs
@@ -82,7 +82,7 @@ loop-less c = search needs
 
 loop-again : tie.Need-loop-again Inv-loop μ-loop
 loop-again c =
-    let held = c .before .before .before in
+    let held = c .before .before .before .before in
     let loop = held .loop in
     let args = held .before .before .before .args in (
       one-more-filled _ (loop .fates) (loop .i) _ (omega arith) (loop .inv .0)
@@ -94,9 +94,11 @@ loop-again c =
 returns : tie.Need-returns Inv-loop μ-loop
 returns c =
     let start = c .before .before .before .before in
-    let loop = c .before .loop in
-    all-ring-fates _ _ _ _ _ _ _ (loop .fates) (start .pre .1) (loop .inv .0 .whole) (loop .inv .2)
-    (filled-below _ (loop .fates) (loop .i) (start .args .job-count) (omega arith) (loop .inv .0))
+    let loop = c .before .loop in (
+      loop .inv .2 .whole,
+      all-ring-fates _ _ _ _ _ _ _ (loop .fates) (start .pre .2) (loop .inv .0 .whole) (loop .inv .2)
+          (filled-below _ (loop .fates) (loop .i) (start .args .job-count) (omega arith) (loop .inv .0)),
+    )
 
 pub ring-fates-spec : {M : Type 1} → statement M
 ring-fates-spec =
@@ -109,7 +111,7 @@ ring-fates-spec =
     mul-ring-fate
     element-copy-out-ring-fate
     mul-ring-fate-2
-    array-read-ring-fate
+    element-copy-out-ring-fate-2
     ring-fate-requires
     mul-fates
     element-write-fates

@@ -20,10 +20,12 @@ waits-column-requires-2 c κs = search needs
 returns : tie.Need-returns
 returns c =
     let ringed = c .before .before .before in
-    let looked-up = ringed .before .before .before in
-    let late = looked-up .before .before .before in
-    steps-1-and-2 (late .late-fates .ensures) (looked-up .waits-column .ensures) (ringed .ring-fates .ensures)
-    (c .waits-column2 .ensures)
+    let looked-up = ringed .before .before .before .before in
+    let late = looked-up .before .before .before in (
+      ringed .ring-fates .ensures .0,
+      steps-1-and-2 (late .late-fates .ensures) (looked-up .waits-column .ensures) (ringed .ring-fates .ensures .1)
+          (c .waits-column2 .ensures),
+    )
 
 pub take-out-spec : {M : Type 1} → statement M
 take-out-spec =

@@ -1,7 +1,7 @@
 -- `writer::write` meets its contract: the check decides first, then the room, and then the text is put at the front. Assumes
 -- nothing.
 use mathlib.Core.List.{[]}
-use mathlib.Core.Path.{_≡_, sym, ap, _∙_}
+use mathlib.Core.Path.{_≡_, refl, sym, ap, _∙_}
 use native.Mathlib.Omega.{arith}
 use lib.ListN.{length-map}
 use Rattle.checks.proofs.Exactly.{done-exactly, refused-exactly}
@@ -18,22 +18,33 @@ use Rattle.writer.proofs.write.Tie as tie
 says : {v w : Verdict} → v ≡ w → verdictSays v [] ≡ verdictSays w []
 says e = ap (λ (v : Verdict). verdictSays v []) e
 
--- the check is done
-done : (c : tie.After-enum-told) → let t = c .before .before .before .before .args .table in check t ≡ taken (recordsOf t)
-done c =
-    let t = c .before .before .before .before .args .table in
-    done-exactly t .0 (sym (says (c .enum-told .given .1)) ∙ c .before .before .check-table .ensures)
+-- what stood at the start
+abbrev started : tie.After-check-table → tie.Start
+started c = c .before .before .before .before .before .before .before .before
 
-checked-table : (c : tie.After-enum-told) → Checked (c .before .before .before .before .args .table)
+-- the check is done
+done : (c : tie.After-enum-told) → let t = started (c .before .before) .args .table in check t ≡ taken (recordsOf t)
+done c =
+    let t = started (c .before .before) .args .table in
+    done-exactly t .0 (sym (says (c .enum-told .given .1)) ∙ c .before .before .check-table .ensures .verdict)
+
+checked-table : (c : tie.After-enum-told) → Checked (started (c .before .before) .args .table)
 checked-table c =
-    let start = c .before .before .before .before in
+    let start = started (c .before .before) in
     let t = start .args .table in
     let good = start .good .0 .1 .1 .1 .1 .1 .1 .1 in
     checked t (done c) (sym (length-map (t .speeds) _) ∙ good .0 .1 .0 .1) (sym (length-map (t .jobs) _) ∙ good .1 .0 .1 .0 .1)
     (sym (length-map (t .holds) _) ∙ good .1 .1 .0 .1 .0 .1)
 
 check-table-requires : tie.Need-check-table-requires
-check-table-requires c κs = search needs
+check-table-requires c κs = record {
+  number = refl;
+  cycles = refl;
+  worth = refl;
+  critical = refl;
+  termination = refl;
+  request = refl;
+}
 
 enum-known-verdict : tie.Need-enum-known-verdict
 enum-known-verdict c = search needs
@@ -41,11 +52,11 @@ enum-known-verdict c = search needs
 returns : tie.Need-returns
 returns c =
     let k = c .before .before .before in
-    let s = k .before .before in
+    let s = started k in
     let g = c .before .verdict .given in
     let t = s .args .table in
     refused-answer t (s .args .out .now) (g .0 .0) (g .0 .1 .0)
-    (refused-exactly t (g .0 .0) (g .0 .1 .0) .0 (sym (says (g .1)) ∙ k .check-table .ensures))
+    (refused-exactly t (g .0 .0) (g .0 .1 .0) .0 (sym (says (g .1)) ∙ k .check-table .ensures .verdict))
 
 enum-told : tie.Need-enum-told
 enum-told c = search needs
@@ -56,7 +67,7 @@ text-length-requires c κs = checked-table c
 returns-2 : tie.Need-returns-2
 returns-2 c =
     let e = c .before .before in
-    let s = e .before .before .before .before in
+    let s = started (e .before .before) in
     no-room (s .args .table) (done e) (s .args .out .now) (omega (arith, c .if1 .taken, c .before .text-length .ensures))
 
 put-text-requires : tie.Need-put-text-requires
@@ -71,7 +82,7 @@ returns-3 : tie.Need-returns-3
 returns-3 c =
     let p = c .before .before in
     let e = p .before .before .before .before in
-    let s = e .before .before .before .before in
+    let s = started (e .before .before) in
     text-written (s .args .table) (done e) (s .args .out .now) (p .put-text .last .1 .0) (p .put-text .result)
     (omega (arith, p .before .before .if1 .left, p .before .before .before .text-length .ensures)) (p .put-text .ensures .0) (p .put-text .ensures .1)
 
