@@ -1,7 +1,7 @@
 -- `writer::write` meets its contract: the check decides first, then the room, and then the text is put at the front. Assumes
 -- nothing.
 use mathlib.Core.List.{[]}
-use mathlib.Core.Path.{_≡_, refl, sym, ap, _∙_}
+use mathlib.Core.Path.{_≡_, sym, ap, _∙_}
 use native.Mathlib.Omega.{arith}
 use lib.ListN.{length-map}
 use Rattle.checks.proofs.Exactly.{done-exactly, refused-exactly}
@@ -18,33 +18,22 @@ use Rattle.writer.proofs.write.Tie as tie
 says : {v w : Verdict} → v ≡ w → verdictSays v [] ≡ verdictSays w []
 says e = ap (λ (v : Verdict). verdictSays v []) e
 
--- what stood at the start
-abbrev started : tie.After-check-table → tie.Start
-started c = c .before .before .before .before .before .before .before .before
-
 -- the check is done
-done : (c : tie.After-enum-told) → let t = started (c .before .before) .args .table in check t ≡ taken (recordsOf t)
+done : (c : tie.After-enum-told) → let t = c .before .before .before .before .args .table in check t ≡ taken (recordsOf t)
 done c =
-    let t = started (c .before .before) .args .table in
-    done-exactly t .0 (sym (says (c .enum-told .given .1)) ∙ c .before .before .check-table .ensures .verdict)
+    let t = c .before .before .before .before .args .table in
+    done-exactly t .0 (sym (says (c .enum-told .given .1)) ∙ c .before .before .check-only .ensures)
 
-checked-table : (c : tie.After-enum-told) → Checked (started (c .before .before) .args .table)
+checked-table : (c : tie.After-enum-told) → Checked (c .before .before .before .before .args .table)
 checked-table c =
-    let start = started (c .before .before) in
+    let start = c .before .before .before .before in
     let t = start .args .table in
     let good = start .good .0 .1 .1 .1 .1 .1 .1 .1 in
     checked t (done c) (sym (length-map (t .speeds) _) ∙ good .0 .1 .0 .1) (sym (length-map (t .jobs) _) ∙ good .1 .0 .1 .0 .1)
     (sym (length-map (t .holds) _) ∙ good .1 .1 .0 .1 .0 .1)
 
-check-table-requires : tie.Need-check-table-requires
-check-table-requires c κs = record {
-  number = refl;
-  cycles = refl;
-  worth = refl;
-  critical = refl;
-  termination = refl;
-  request = refl;
-}
+check-only-requires : tie.Need-check-only-requires
+check-only-requires c κs = search needs
 
 enum-known-verdict : tie.Need-enum-known-verdict
 enum-known-verdict c = search needs
@@ -52,11 +41,11 @@ enum-known-verdict c = search needs
 returns : tie.Need-returns
 returns c =
     let k = c .before .before .before in
-    let s = started k in
+    let s = k .before .before in
     let g = c .before .verdict .given in
     let t = s .args .table in
     refused-answer t (s .args .out .now) (g .0 .0) (g .0 .1 .0)
-    (refused-exactly t (g .0 .0) (g .0 .1 .0) .0 (sym (says (g .1)) ∙ k .check-table .ensures .verdict))
+    (refused-exactly t (g .0 .0) (g .0 .1 .0) .0 (sym (says (g .1)) ∙ k .check-only .ensures))
 
 enum-told : tie.Need-enum-told
 enum-told c = search needs
@@ -67,7 +56,7 @@ text-length-requires c κs = checked-table c
 returns-2 : tie.Need-returns-2
 returns-2 c =
     let e = c .before .before in
-    let s = started (e .before .before) in
+    let s = e .before .before .before .before in
     no-room (s .args .table) (done e) (s .args .out .now) (omega (arith, c .if1 .taken, c .before .text-length .ensures))
 
 put-text-requires : tie.Need-put-text-requires
@@ -82,7 +71,7 @@ returns-3 : tie.Need-returns-3
 returns-3 c =
     let p = c .before .before in
     let e = p .before .before .before .before in
-    let s = started (e .before .before) in
+    let s = e .before .before .before .before in
     text-written (s .args .table) (done e) (s .args .out .now) (p .put-text .last .1 .0) (p .put-text .result)
     (omega (arith, p .before .before .if1 .left, p .before .before .before .text-length .ensures)) (p .put-text .ensures .0) (p .put-text .ensures .1)
 
@@ -90,7 +79,7 @@ pub write-spec : {M : Type 1} → statement M
 write-spec =
     tie.close
     (tie.spec
-    check-table-requires
+    check-only-requires
     enum-known-verdict
     returns
     enum-told
