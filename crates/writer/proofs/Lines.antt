@@ -2,17 +2,19 @@
 -- lines further as its place says, since the lines are the lists of the letters one behind the other. The text from a line on is
 -- that line's and the text behind it. Assumes nothing.
 use mathlib.Core.List.{List, [], _∷_, _++_, map}
-use mathlib.Core.Path.{_≡_, refl, _∙_}
+use mathlib.Core.Path.{_≡_, refl, sym, _∙_}
 use Prim.Native.Nat.{ℕ, zero, suc, _+_, _≤_, _<_}
 use native.Mathlib.Numerals.{add-one}
 use native.Mathlib.Omega.{arith}
 use lib.ListN.{length, drop, drop-of-length-le, getD, length-append, length-map, take}
-use lib.Seq.{drop-append-add, drop-append-le, length-take-le}
+use lib.Seq.{drop-append-add, drop-append-le, getD-take, length-take-le}
 use Rattle.checks.proofs.Places.{record-at}
+use Rattle.columns.specs.Columns.{ColumnsOf}
+use Rattle.columns.specs.declared.Columns.{Columns}
 use Rattle.rules.specs.Lists.{joined}
 use Rattle.rules.specs.TableText.{Record, Records, lined, noHold, noJob, noSpeed, recordText, recordsOf, textOf}
 use Rattle.rules.specs.declared.Table.{Table}
-use Rattle.writer.specs.Lines.{At, RecordsPlaced, StandsOn, Writes, recordOn, rowText}
+use Rattle.writer.specs.Lines.{At, RecordsPlaced, StandsOn, Writes, jobIn, recordOn, rowText}
 use Rattle.writer.specs.declared.LineRecord.{LineRecord}
 use Rattle.writer.specs.declared.Row.{Row}
 
@@ -113,3 +115,15 @@ module _ (r : Records) where
 pub row-next : (t : Table) (i : ℕ) (line : LineRecord) (row : Row) → StandsOn t i line → Writes (recordOn t line) row
     → textFrom (recordsOf t) i ≡ rowText row ++ textFrom (recordsOf t) (i + 1)
 row-next t i line row stands writes = text-next (recordsOf t) i (recordOn t line) (stands .there) ∙ rw (writes .text)
+
+-- the job at a place of the columns is the table's, and so is its line
+job-in-columns : (t : Table) (c : Columns) → ColumnsOf (recordsOf t .jobs) c → (n : ℕ) → n < t .«job_count»
+    → jobIn c n ≡ getD (t .jobs) n noJob
+unfolding recordsOf
+job-in-columns t c of n h =
+    rw (of .number n, of .cycles n, of .worth n, of .critical n, of .termination n, of .request n)
+    (getD-take (t .«job_count») (t .jobs) n noJob h)
+
+pub job-writes : (t : Table) (c : Columns) → ColumnsOf (recordsOf t .jobs) c → (n : ℕ) → n < t .«job_count» → (row : Row)
+    → Writes (Record.J (jobIn c n)) row → Writes (Record.J (getD (t .jobs) n noJob)) row
+job-writes t c of n h row writes = rw (sym (job-in-columns t c of n h)) writes

@@ -5,6 +5,8 @@ use Prim.Native.Nat.{ℕ, suc, _≤_, _<_}
 use lib.ListN.{length, drop, getD, take}
 use Rattle.grammar.specs.Longest.{mostBytes}
 use Rattle.rules.specs.TableText.{Record, lineText, lined, mostHolds, mostJobs, mostSpeeds, noHold, noJob, noSpeed, recordText, recordsOf, textOf, mostFields}
+use Rattle.columns.specs.declared.Columns.{Columns}
+use Rattle.rules.specs.declared.Job.{Job}
 use Rattle.rules.specs.declared.Table.{Table}
 use Rattle.writer.specs.declared.LineRecord.{LineRecord}
 use Rattle.writer.specs.declared.Row.{Row}
@@ -32,6 +34,17 @@ pub record Writes (r : Record) (row : Row) : Type 0 where
   pub few : row .count ≤ mostFields
   pub places : length (row .numbers) ≡ mostFields
   pub text : rowText row ≡ recordText r
+
+-- the job at a place of the columns
+abbrev pub jobIn : Columns → ℕ → Job
+jobIn c n = record {
+  number = getD (c .number) n 0;
+  cycles = getD (c .cycles) n 0;
+  worth = getD (c .worth) n 0;
+  critical = getD (c .critical) n 0;
+  termination = getD (c .termination) n 0;
+  request = getD (c .request) n 0;
+}
 
 -- the record that a table holds for a line
 abbrev pub recordOn : Table → LineRecord → Record

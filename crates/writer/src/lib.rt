@@ -2,7 +2,6 @@
 // the lines, one after the other by their index.
 use checks::check_table;
 use rules::Hold;
-use rules::Job;
 use rules::MOST_FIELDS;
 use rules::MOST_JOBS;
 use rules::Refusal;
@@ -10,16 +9,13 @@ use rules::Speed;
 use rules::Table;
 use rules::Verdict;
 use rules::Written;
-ghost use mathlib.Core.List.{[]};
 ghost use mathlib.Core.Path.{_≡_};
-ghost use Prim.Native.Nat.{_≤_};
+ghost use Prim.Native.Nat.{_≤_, _<_};
 ghost use lib.ListN.{length};
-ghost use Rattle.checks.specs.Verdict.{checkSays};
+ghost use Rattle.columns.specs.Columns.{ColumnsOf, besides};
 ghost use Rattle.grammar.specs.Put.{put};
-ghost use Rattle.rules.specs.Answers.{verdictSays};
-ghost use Rattle.rules.specs.Refusals.{check};
-ghost use Rattle.rules.specs.TableText.{Record, lined, recordsOf, textOf};
-ghost use Rattle.writer.specs.Lines.{Checked, LineAt, Writes};
+ghost use Rattle.rules.specs.TableText.{Record, lined, mostJobs, recordsOf, textOf};
+ghost use Rattle.writer.specs.Lines.{Checked, LineAt, Writes, jobIn};
 ghost use Rattle.writer.specs.Promise.{WrittenAs};
 
 // Which record stands on a line: its letter, and its place among the table's records of that letter.
@@ -57,19 +53,29 @@ fn speed_row(speed: Speed) -> Row
     }
 }
 
-fn job_row(job: Job) -> Row
-    ensures { λ r. ⌜ Writes (Record.J job) r ⌝ }
+// The J line of the job at this place of the columns.
+fn job_row<'a>(
+    number: &'a [u64; MOST_JOBS],
+    cycles: &'a [u64; MOST_JOBS],
+    worth: &'a [u64; MOST_JOBS],
+    critical: &'a [u64; MOST_JOBS],
+    termination: &'a [u64; MOST_JOBS],
+    request: &'a [u64; MOST_JOBS],
+    place: usize,
+) -> Row
+    requires { ⌜ place < mostJobs ⌝ }
+    ensures { λ r. ⌜ Writes (Record.J (jobIn (besides (now (number .entry)) (now (cycles .entry)) (now (worth .entry)) (now (critical .entry)) (now (termination .entry)) (now (request .entry))) place)) r ⌝ }
 {
     Row {
         letter: b'J',
         count: 6,
         numbers: [
-            job.number,
-            job.cycles,
-            job.worth,
-            job.critical,
-            job.termination,
-            job.request,
+            number[place],
+            cycles[place],
+            worth[place],
+            critical[place],
+            termination[place],
+            request[place],
         ],
     }
 }
@@ -110,21 +116,32 @@ fn line_at(speed_count: usize, job_count: usize, i: usize) -> LineRecord
     LineRecord::Hold(behind_speeds - job_count)
 }
 
-// How many bytes the text has. A table given to a function is copied, so that the loop itself reads the record.
-fn text_length(table: Table) -> usize
-    requires { ⌜ Checked table ⌝ }
+// How many bytes the text has. The jobs are read from the columns that the check made: so of the table only the F and H lines are
+// copied.
+fn text_length<'a>(
+    table: Table,
+    number: &'a [u64; MOST_JOBS],
+    cycles: &'a [u64; MOST_JOBS],
+    worth: &'a [u64; MOST_JOBS],
+    critical: &'a [u64; MOST_JOBS],
+    termination: &'a [u64; MOST_JOBS],
+    request: &'a [u64; MOST_JOBS],
+) -> usize
+    requires { ⌜ Checked table × ColumnsOf (recordsOf table .jobs) (besides (now number) (now cycles) (now worth) (now critical) (now termination) (now request)) ⌝ }
     ensures { λ r. ⌜ r ≡ length (textOf (recordsOf table)) ⌝ }
 {
     let lines = line_count(table);
+    let speeds = table.speeds;
+    let holds = table.holds;
     let mut bytes: usize = 0;
     let mut counted = 0;
     while counted < lines {
         let line = line_at(table.speed_count, table.job_count, counted);
         let row = match line {
             LineRecord::Clock => clock_row(table.clock, table.budget),
-            LineRecord::Speed(n) => speed_row(table.speeds[n]),
-            LineRecord::Job(n) => job_row(table.jobs[n]),
-            LineRecord::Hold(n) => hold_row(table.holds[n]),
+            LineRecord::Speed(n) => speed_row(speeds[n]),
+            LineRecord::Job(n) => job_row(number, cycles, worth, critical, termination, request, n),
+            LineRecord::Hold(n) => hold_row(holds[n]),
         };
         let fields = row.numbers;
         let count = row.count;
@@ -135,23 +152,34 @@ fn text_length(table: Table) -> usize
 }
 
 // Writes the text at the front of the buffer, and hands back its length.
-fn put_text(table: Table, out: &mut [u8]) -> usize
-    requires { ⌜ Checked table × (length (textOf (recordsOf table)) ≤ length (now out)) ⌝ }
+fn put_text<'a>(
+    table: Table,
+    number: &'a [u64; MOST_JOBS],
+    cycles: &'a [u64; MOST_JOBS],
+    worth: &'a [u64; MOST_JOBS],
+    critical: &'a [u64; MOST_JOBS],
+    termination: &'a [u64; MOST_JOBS],
+    request: &'a [u64; MOST_JOBS],
+    out: &mut [u8],
+) -> usize
+    requires { ⌜ Checked table × ColumnsOf (recordsOf table .jobs) (besides (now number) (now cycles) (now worth) (now critical) (now termination) (now request)) × (length (textOf (recordsOf table)) ≤ length (now out)) ⌝ }
     ensures { λ r. ⌜
         (r ≡ length (textOf (recordsOf table)))
         × (now (out .exit) ≡ put (now (out .entry)) 0 (textOf (recordsOf table)))
         ⌝ }
 {
     let lines = line_count(table);
+    let speeds = table.speeds;
+    let holds = table.holds;
     let mut next = 0;
     let mut written = 0;
     while written < lines {
         let line = line_at(table.speed_count, table.job_count, written);
         let row = match line {
             LineRecord::Clock => clock_row(table.clock, table.budget),
-            LineRecord::Speed(n) => speed_row(table.speeds[n]),
-            LineRecord::Job(n) => job_row(table.jobs[n]),
-            LineRecord::Hold(n) => hold_row(table.holds[n]),
+            LineRecord::Speed(n) => speed_row(speeds[n]),
+            LineRecord::Job(n) => job_row(number, cycles, worth, critical, termination, request, n),
+            LineRecord::Hold(n) => hold_row(holds[n]),
         };
         let fields = row.numbers;
         let count = row.count;
@@ -161,9 +189,10 @@ fn put_text(table: Table, out: &mut [u8]) -> usize
     next
 }
 
-// The check alone: the columns that it fills are of no use here, and in a function of their own they take no room beside the writing.
-fn check_only(table: Table) -> Verdict
-    ensures { λ r. ⌜ verdictSays r [] ≡ checkSays (check table) ⌝ }
+// Writes a table's text to the front of a lent buffer and answers its length; or else changes nothing and answers the first
+// refusal of its records, or that there is no room.
+pub fn write(table: Table, out: &mut [u8]) -> Written
+    ensures { λ r. ⌜ WrittenAs table (now (out .entry)) (now (out .exit)) r ⌝ }
 {
     let mut number = [0; MOST_JOBS];
     let mut cycles = [0; MOST_JOBS];
@@ -171,7 +200,7 @@ fn check_only(table: Table) -> Verdict
     let mut critical = [0; MOST_JOBS];
     let mut termination = [0; MOST_JOBS];
     let mut request = [0; MOST_JOBS];
-    check_table(
+    let verdict = check_table(
         &mut number,
         &mut cycles,
         &mut worth,
@@ -179,20 +208,31 @@ fn check_only(table: Table) -> Verdict
         &mut termination,
         &mut request,
         table,
-    )
-}
-
-// Writes a table's text to the front of a lent buffer and answers its length; or else changes nothing and answers the first
-// refusal of its records, or that there is no room.
-pub fn write(table: Table, out: &mut [u8]) -> Written
-    ensures { λ r. ⌜ WrittenAs table (now (out .entry)) (now (out .exit)) r ⌝ }
-{
-    let verdict = check_only(table);
+    );
     if let Verdict::Refused(why, line) = verdict {
         return Written::Refused(why, line);
     }
-    if out.len() < text_length(table) {
+    let bytes = text_length(
+        table,
+        &number,
+        &cycles,
+        &worth,
+        &critical,
+        &termination,
+        &request,
+    );
+    if out.len() < bytes {
         return Written::Refused(Refusal::Room, 0);
     }
-    Written::Length(put_text(table, out))
+    let length = put_text(
+        table,
+        &number,
+        &cycles,
+        &worth,
+        &critical,
+        &termination,
+        &request,
+        out,
+    );
+    Written::Length(length)
 }

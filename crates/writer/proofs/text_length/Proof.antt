@@ -6,34 +6,45 @@ use Prim.Native.Nat.{_+_, _-_, _≤_, _<_}
 use native.Mathlib.Omega.{arith}
 use lib.ListN.{length, length-append}
 use lib.Seq.{length-take-le}
+use Rattle.columns.specs.Columns.{besides}
+use Rattle.columns.specs.declared.Columns.{Columns}
 use Rattle.rules.specs.TableText.{recordsOf, textOf}
-use Rattle.writer.proofs.Lines.{no-text-left, row-next, text-from-first, textFrom}
+use Rattle.writer.proofs.Lines.{job-writes, no-text-left, row-next, text-from-first, textFrom}
 use Rattle.writer.specs.Lines.{StandsOn, Writes, recordOn, rowText}
 use borrow.Author.Needs.{needs}
 use Rattle.writer.proofs.text_length.Statement.{statement}
 use Rattle.writer.proofs.text_length.Tie as tie
 
 abbrev Inv-loop : tie.InvT-loop
-Inv-loop table lines bytes₀ counted₀ bytes counted =
+Inv-loop table number cycles worth critical termination request lines speeds holds bytes₀ counted₀ bytes counted =
     (counted ≤ lines) × (bytes + length (textFrom (recordsOf table) counted) ≡ length (textOf (recordsOf table)))
 
 abbrev μ-loop : tie.MeasureT-loop
-μ-loop table lines bytes₀ counted₀ bytes counted = lines - counted
+μ-loop table number cycles worth critical termination request lines speeds holds bytes₀ counted₀ bytes counted = lines - counted
+
+abbrev columns : tie.Start Inv-loop μ-loop → Columns
+columns c =
+    besides (c .args .number .now) (c .args .cycles .now) (c .args .worth .now) (c .args .critical .now) (c .args .termination .now)
+    (c .args .request .now)
 
 stands : (c : tie.After-line-at Inv-loop μ-loop)
-    → StandsOn (c .before .before .before .before .args .t1) (c .before .before .loop .counted) (c .line-at .result)
+    → StandsOn (c .before .before .before .before .before .before .args .table) (c .before .before .loop .counted) (c .line-at .result)
 stands c =
-    let start = c .before .before .before .before in
-    c .line-at .ensures (start .args .t1) (start .pre .placed) refl refl
-    (omega (arith, c .before .before .before .line-count .ensures, c .before .loop-test .taken))
+    let start = c .before .before .before .before .before .before in
+    c .line-at .ensures (start .args .table) (start .pre .0 .placed) refl refl
+    (omega (arith, c .before .before .before .before .before .line-count .ensures, c .before .loop-test .taken))
 
 -- the row is that of the record which stands there, whatever its letter
 row-told : (c : tie.At-match-came Inv-loop μ-loop)
-    → Writes (recordOn (c .before .before .before .before .before .args .t1) (c .before .line-at .result)) (c .match .row)
+    → Writes (recordOn (c .before .before .before .before .before .before .before .args .table) (c .before .line-at .result)) (c .match .row)
 row-told c =
     ⊎-elim (λ w. rw (w .1 .given .1, w .3) (w .2 .ensures))
     (⊎-elim (λ w. rw (w .1 .given .1, w .5) (w .4 .ensures))
-    (⊎-elim (λ w. rw (w .1 .given .1, w .5) (w .4 .ensures))
+    (⊎-elim (λ w.
+    let start = c .before .before .before .before .before .before .before in
+    rw (w .1 .given .1, w .4)
+    (job-writes (start .args .table) (columns start) (start .pre .1) _ (rw (w .1 .given .1) at (stands (c .before) .within)) _
+    (w .3 .ensures)))
     (λ w. rw (w .1 .given .1, w .5) (w .4 .ensures))))
     (c .match .came)
 
@@ -44,12 +55,12 @@ row-fits c = omega (arith, row-told c .few, row-told c .places)
 line-counted : (c : tie.After-line-length Inv-loop μ-loop)
     → let came = c .before .before .before in
     let loop = came .before .before .before .loop in
-    let r = recordsOf (came .before .before .before .before .before .args .t1) in
+    let r = recordsOf (came .before .before .before .before .before .before .before .args .table) in
     loop .bytes + c .line-length .result + length (textFrom r (loop .counted + 1)) ≡ length (textOf r)
 line-counted c =
     let came = c .before .before .before in
     let loop = came .before .before .before .loop in
-    let t = came .before .before .before .before .before .args .t1 in
+    let t = came .before .before .before .before .before .before .before .args .table in
     let next = row-next t (loop .counted) (came .before .line-at .result) (came .match .row) (stands (came .before)) (row-told came) in
     omega (
       arith,
@@ -60,22 +71,22 @@ line-counted c =
 
 -- where the record stands, by its letter
 speed-there : (c : tie.After-line Inv-loop μ-loop)
-    → c .line .given .0 .0 < c .before .before .before .before .before .before .args .t1 .«speed_count»
+    → c .line .given .0 .0 < c .before .before .before .before .before .before .before .before .args .table .«speed_count»
 speed-there c = rw (c .line .given .1) at (stands (c .before .before) .within)
 
 job-there : (c : tie.After-line2 Inv-loop μ-loop)
-    → c .line2 .given .0 .0 < c .before .before .before .before .before .before .args .t1 .«job_count»
+    → c .line2 .given .0 .0 < c .before .before .before .before .before .before .before .before .args .table .«job_count»
 job-there c = rw (c .line2 .given .1) at (stands (c .before .before) .within)
 
 hold-there : (c : tie.After-line3 Inv-loop μ-loop)
-    → c .line3 .given .0 .0 < c .before .before .before .before .before .before .args .t1 .«hold_count»
+    → c .line3 .given .0 .0 < c .before .before .before .before .before .before .before .before .args .table .«hold_count»
 hold-there c = rw (c .line3 .given .1) at (stands (c .before .before) .within)
 
 line-count-requires : tie.Need-line-count-requires Inv-loop μ-loop
 line-count-requires c κs = search needs
 
 loop-holds : tie.Need-loop-holds Inv-loop μ-loop
-loop-holds c = (omega arith, rw (text-from-first (recordsOf (c .before .args .t1))) (omega arith))
+loop-holds c = (omega arith, rw (text-from-first (recordsOf (c .before .before .before .args .table))) (omega arith))
 
 line-at-requires : tie.Need-line-at-requires Inv-loop μ-loop
 line-at-requires c κs = search needs
@@ -92,8 +103,8 @@ enum-known-line c = search needs
 mul-speed-row : tie.Need-mul-speed-row Inv-loop μ-loop
 mul-speed-row c = omega (arith, speed-there (c .before))
 
-element-copy-out-speed-row : tie.Need-element-copy-out-speed-row Inv-loop μ-loop
-element-copy-out-speed-row c = omega (arith, speed-there (c .before))
+array-copy-out-speed-row : tie.Need-array-copy-out-speed-row Inv-loop μ-loop
+array-copy-out-speed-row c = omega (arith, speed-there (c .before))
 
 speed-row-requires : tie.Need-speed-row-requires Inv-loop μ-loop
 speed-row-requires c κs = search needs
@@ -101,14 +112,8 @@ speed-row-requires c κs = search needs
 enum-known-line-2 : tie.Need-enum-known-line-2 Inv-loop μ-loop
 enum-known-line-2 c = search needs
 
-mul-job-row : tie.Need-mul-job-row Inv-loop μ-loop
-mul-job-row c = omega (arith, job-there (c .before))
-
-element-copy-out-job-row : tie.Need-element-copy-out-job-row Inv-loop μ-loop
-element-copy-out-job-row c = omega (arith, job-there (c .before))
-
 job-row-requires : tie.Need-job-row-requires Inv-loop μ-loop
-job-row-requires c κs = search needs
+job-row-requires c κs = omega (arith, job-there (c .before), c .before .before .before .before .before .before .before .before .before .pre .0 .jobs)
 
 enum-known-line-3 : tie.Need-enum-known-line-3 Inv-loop μ-loop
 enum-known-line-3 c = search needs
@@ -116,8 +121,8 @@ enum-known-line-3 c = search needs
 mul-hold-row : tie.Need-mul-hold-row Inv-loop μ-loop
 mul-hold-row c = omega (arith, hold-there (c .before))
 
-element-copy-out-hold-row : tie.Need-element-copy-out-hold-row Inv-loop μ-loop
-element-copy-out-hold-row c = omega (arith, hold-there (c .before))
+array-copy-out-hold-row : tie.Need-array-copy-out-hold-row Inv-loop μ-loop
+array-copy-out-hold-row c = omega (arith, hold-there (c .before))
 
 hold-row-requires : tie.Need-hold-row-requires Inv-loop μ-loop
 hold-row-requires c κs = search needs
@@ -135,7 +140,7 @@ line-length-requires c κs =
 
 add-bytes : tie.Need-add-bytes Inv-loop μ-loop
 add-bytes c =
-    omega (arith, line-counted c, c .before .before .before .before .before .before .before .before .pre .bytes)
+    omega (arith, line-counted c, c .before .before .before .before .before .before .before .before .before .before .pre .0 .bytes)
 
 add-counted : tie.Need-add-counted Inv-loop μ-loop
 add-counted c = search needs
@@ -148,9 +153,9 @@ loop-again c = (omega arith, line-counted c)
 
 returns : tie.Need-returns Inv-loop μ-loop
 returns c =
-    let t = c .before .before .before .args .t1 in
+    let t = c .before .before .before .before .before .args .table in
     let loop = c .before .loop in
-    let none = no-text-left (recordsOf t) (loop .counted) (omega (arith, c .before .before .line-count .ensures, c .loop-test .left)) in
+    let none = no-text-left (recordsOf t) (loop .counted) (omega (arith, c .before .before .before .before .line-count .ensures, c .loop-test .left)) in
     omega (arith, rw none at (loop .inv .1))
 
 pub text-length-spec : {M : Type 1} → statement M
@@ -166,15 +171,13 @@ text-length-spec =
     clock-row-requires
     enum-known-line
     mul-speed-row
-    element-copy-out-speed-row
+    array-copy-out-speed-row
     speed-row-requires
     enum-known-line-2
-    mul-job-row
-    element-copy-out-job-row
     job-row-requires
     enum-known-line-3
     mul-hold-row
-    element-copy-out-hold-row
+    array-copy-out-hold-row
     hold-row-requires
     array-share-prefix-fields
     slice-aggregate-line-length
