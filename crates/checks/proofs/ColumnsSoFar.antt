@@ -8,8 +8,7 @@ use Rattle.checks.proofs.SoFar.{SoFar, at-start, start-column, stored, 
 use Rattle.checks.specs.Left.{Comes}
 use Rattle.checks.specs.Verdict.{AllZero, CheckedInto}
 use Rattle.columns.proofs.Stored.{Filled}
-use Rattle.columns.specs.Columns.{ColumnsOf}
-use Rattle.columns.specs.declared.Columns.{Columns}
+use Rattle.columns.specs.Columns.{Columns, ColumnsOf}
 use Rattle.lines.specs.Step.{afterParsed}
 use Rattle.records.specs.Standing.{noneStanding}
 use Rattle.records.specs.declared.Standing.{Standing}
@@ -87,6 +86,7 @@ unfolding isTaken
 refused-table e = record {
   verdict = rw e;
   columns = λ is. absurd (false≢true (sym (ap isTaken e) ∙ ap isTaken is));
+  worth-whole = λ is. absurd (false≢true (sym (ap isTaken e) ∙ ap isTaken is));
 }
 
 pub taken-table : {t : Table} {c : Columns} {before : Standing} {line : ℕ} (all : ColumnsSoFar t c before line)
@@ -97,4 +97,5 @@ taken-table {t} all e = record {
   columns = λ is.
       let same : all .so-far .stands .records ≡ recordsOf t = ap (λ k. records-taken k (recordsOf t)) (sym e ∙ is) in
       rw same at (columns-so-far all);
+  worth-whole = λ is. all .worth .whole;
 }

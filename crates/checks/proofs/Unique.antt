@@ -5,7 +5,7 @@ use mathlib.Core.Path.{_≡_, sym, ap, _∙_}
 use Rattle.laws.proofs.Unique.{supplied-unique}
 use Rattle.rules.specs.declared.Supplied.{Supplied}
 use Rattle.checks.specs.Verdict.{CheckedInto}
-use Rattle.columns.specs.declared.Columns.{Columns}
+use Rattle.columns.specs.Columns.{Columns}
 use Rattle.rules.specs.declared.Table.{Table}
 use Rattle.rules.specs.declared.Verdict.{Verdict}
 

@@ -5,9 +5,8 @@ use mathlib.Core.Path.{_≡_}
 use Prim.Native.Nat.{ℕ, zero, suc, _≤_}
 use native.Mathlib.Omega.{arith}
 use lib.ListN.{getD}
-use Rattle.columns.specs.Columns.{AtMost, Column, ColumnsOf}
+use Rattle.columns.specs.Columns.{AtMost, Column, Columns, ColumnsOf}
 use Rattle.columns.specs.Ranges.{ColumnsInRange}
-use Rattle.columns.specs.declared.Columns.{Columns}
 use Rattle.grammar.proofs.Ranges.{JobRanges, job-ranges}
 use Rattle.rules.specs.Lists.{Each, _and_}
 use Rattle.rules.specs.TableText.{Record, inRange, noJob}

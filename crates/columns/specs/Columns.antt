@@ -4,17 +4,25 @@ use mathlib.Core.List.{List, map}
 use mathlib.Core.Path.{_≡_}
 use Prim.Native.Nat.{ℕ, _≤_, _<_}
 use lib.ListN.{getD, length}
-use Rattle.columns.specs.declared.Columns.{Columns}
 use Rattle.columns.specs.declared.Terms.{Terms}
 use Rattle.rules.specs.Plan.{Entry, topOf}
 use Rattle.rules.specs.TableText.{Records, noJob}
 use Rattle.rules.specs.declared.Job.{Job}
 
+-- The jobs of a table, a column for each field.
+pub record Columns : Type 0 where
+  pub number : List ℕ
+  pub cycles : List ℕ
+  pub worth : List ℕ
+  pub critical : List ℕ
+  pub termination : List ℕ
+  pub request : List ℕ
+
 -- at each place the field of the job there, and 0 beyond the jobs
 abbrev pub Column : (Job → ℕ) → List Job → List ℕ → Type 0
 Column f js c = (i : ℕ) → getD c i 0 ≡ f (getD js i noJob)
 
--- the columns side by side
+-- columns that are lent one by one, side by side
 abbrev pub besides : List ℕ → List ℕ → List ℕ → List ℕ → List ℕ → List ℕ → Columns
 besides number cycles worth critical termination request = record {
   number = number;

@@ -1,8 +1,7 @@
 -- Columns and terms in the ranges of document 01's "The table text": no sum or product that the steps reckon of them wraps.
 use mathlib.Core.List.{List}
 use Prim.Native.Nat.{ℕ, _≤_}
-use Rattle.columns.specs.Columns.{AtMost}
-use Rattle.columns.specs.declared.Columns.{Columns}
+use Rattle.columns.specs.Columns.{AtMost, Columns}
 use Rattle.columns.specs.declared.Terms.{Terms}
 use Rattle.rules.specs.TableText.{mostCost, mostCycles, mostJobs, mostMhz, mostJobNumber, mostResource, mostTime, mostWorth}
 

@@ -1,1 +1,2 @@
+mod Numbers
 mod Padding

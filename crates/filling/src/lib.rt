@@ -72,6 +72,28 @@ pub fn put_order(order: &mut [u64], places: &[u64], number: &[u64; MOST_JOBS])
     clear(&mut order[count..]);
 }
 
+// The same where the places themselves stand: each becomes the number of its job.
+fn name_places(part: &mut [u64], number: &[u64; MOST_JOBS])
+    requires { ⌜ AllBelow mostJobs (now part) ⌝ }
+    ensures { λ _. ⌜ now (part .exit) ≡ map (λ p. getD (now (number .entry)) p 0) (now (part .entry)) ⌝ }
+{
+    let mut i = 0;
+    while i < part.len() {
+        let place = part[i] as usize;
+        part[i] = number[place];
+        i += 1;
+    }
+}
+
+// The first `count` of a buffer, which are places, become the numbers of their jobs, and those after them 0.
+pub fn name_order(order: &mut [u64], count: usize, number: &[u64; MOST_JOBS])
+    requires { ⌜ (count ≤ length (now order)) × AllBelow mostJobs (take count (now order)) ⌝ }
+    ensures { λ _. ⌜ now (order .exit) ≡ padded (length (now (order .entry))) 0 (map (λ p. getD (now (number .entry)) p 0) (take count (now (order .entry)))) ⌝ }
+{
+    name_places(&mut order[..count], number);
+    clear(&mut order[count..]);
+}
+
 // "Fate places follow the J lines; places after the last hold 0."
 pub fn put_fates(out: &mut [u64], fates: &[u64])
     requires { ⌜ length (now fates) ≤ length (now out) ⌝ }

@@ -1,5 +1,5 @@
--- What `list` and `list_with_budget` write is the rules' listing: the lines of the numbers stored are the plan's, a refusal's line
--- is the refusal's, and both stand at the front of the buffer where there is room. Assumes nothing.
+-- What is written is the rules' listing: the lines of the numbers stored are the plan's, a refusal's line is the refusal's, and both
+-- stand at the front of the buffer where there is room. Assumes nothing.
 use mathlib.Core.List.{List}
 use mathlib.Core.Path.{_≡_, refl}
 use Prim.Native.Nat.{ℕ, _≤_, _<_}
@@ -12,9 +12,9 @@ use Rattle.listing.specs.Listed.{wrote}
 use Rattle.listing.specs.Promises.{FateRows, OrderRows}
 use Rattle.listing.specs.Texts.{planText, refusalText}
 use Rattle.rules.specs.Answers.{numberOf}
-use Rattle.rules.specs.Listing.{linesFor, listedWith, listing, listingOf, listingWith, planLine, planLines}
-use Rattle.rules.specs.Plan.{atBudget, courseOf, fateIn, planFrom, planOf}
-use Rattle.rules.specs.Refusals.{Taken, read, refusedAt, refusedOut, taken, written}
+use Rattle.rules.specs.Listing.{linesFor, listing, planLine, planLines}
+use Rattle.rules.specs.Plan.{courseOf, fateIn, planFrom, planOf}
+use Rattle.rules.specs.Refusals.{refusedAt, refusedOut, taken, written}
 use Rattle.rules.specs.TableText.{Records, noJob}
 use Rattle.rules.specs.declared.Refusal.{Refusal}
 use Rattle.rules.specs.declared.Written.{Written}
@@ -63,13 +63,3 @@ module _ (text out : List ℕ) where
 pub lines-of-plan : (t : Records) → planLines (t .clock) (planOf t) ≡ linesFor (taken t)
 unfolding linesFor
 lines-of-plan t = refl
-
--- what was taken of a text decides its listing, with its own budget or with one beside it
-pub listing-of : (text out : List ℕ) (k : Taken) → read text ≡ k → written (linesFor k) out ≡ listing text out
-unfolding listing listingOf
-listing-of text out k e = rw e
-
-pub listing-with : (text : List ℕ) (budget : ℕ) (out : List ℕ) (k : Taken) → atBudget budget (read text) ≡ k
-    → written (linesFor k) out ≡ listingWith text budget out
-unfolding listingWith listedWith
-listing-with text budget out k e = rw e

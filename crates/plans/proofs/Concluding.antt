@@ -3,16 +3,17 @@
 use mathlib.Core.Bool.{cond}
 use mathlib.Core.List.{List}
 use mathlib.Core.Path.{_≡_, refl, sym, ap, _∙_}
-use Prim.Native.Nat.{ℕ}
+use Prim.Native.Nat.{ℕ, _-_, _*_}
 use native.Mathlib.Omega.{arith}
 use lib.ListN.{getD, take}
-use Rattle.columns.specs.Columns.{jobsAt}
+use Rattle.columns.specs.Columns.{TermsOf, jobsAt}
 use Rattle.columns.specs.declared.Terms.{Terms}
 use Rattle.entries.proofs.Sums.{cycles-of-jobs}
 use Rattle.plans.proofs.Courses.{fates-at-end}
 use Rattle.plans.specs.Courses.{CourseLeft, DecisionLeft, jobAt}
 use Rattle.plans.specs.Promises.{Concluded, Marked, PlacesOfJobs, Totalled, Whole}
 use Rattle.rules.specs.Plan.{courseOf, cyclesOf, energyAt, fatePlanned, inPlan, planFrom, planOf, speedFor, runOrder}
+use Rattle.rules.specs.Rooms.{lastRoom, roomLeft}
 use Rattle.rules.specs.TableText.{Records}
 use Rattle.rules.specs.declared.Job.{Job}
 use Rattle.rules.specs.declared.Speed.{Speed}
@@ -33,6 +34,11 @@ energy-planned : (t : Records) (js : List Job) (f : Speed) → js ≡ planOf t .
 unfolding planOf planFrom
 energy-planned t js f e g = rw (e, g)
 
+room-at-end : (t : Records) (terms : Terms) → TermsOf t terms → (cycles : ℕ) → cycles ≡ cyclesOf (planOf t .jobs)
+    → terms .budget - cycles * terms .cost ≡ lastRoom t
+unfolding lastRoom roomLeft planOf planFrom
+room-at-end t terms of cycles all = rw (all, of .cost, of .budget)
+
 module _ (speeds : List Speed) (speed-count : ℕ) (cycles termination : List ℕ) (course : CourseLeft) (terms : Terms)
     (chosen : Chosen) (fates : List ℕ) where
   abbrev planned : List ℕ
@@ -46,7 +52,7 @@ module _ (speeds : List Speed) (speed-count : ℕ) (cycles termination : List �
     speed = chosen .speed;
     energy = chosen .energy;
     turns = course .turns;
-    cycles = course .totals .cycles;
+    room = terms .budget - course .totals .cycles * terms .cost;
   }
 
   pub steps-8-and-9 : Whole (course .places) (course .fates) → PlacesOfJobs (course .totals .count) (course .places)
@@ -69,8 +75,9 @@ module _ (speeds : List Speed) (speed-count : ℕ) (cycles termination : List �
               ∙ fates-at-end t valid i h;
           speed = found;
           energy = by-rule .energy t of ∙ energy-planned t (jobsAt (t .jobs) planned) (chosen .speed) jobs found;
-          cycles =
-              totalled .total-true ∙ cycles-of-jobs cycles (t .jobs) (of .runs-of .cycles-of) planned ∙ ap cyclesOf jobs;
+          room =
+              room-at-end t terms (of .terms-of) (course .totals .cycles)
+              (totalled .total-true ∙ cycles-of-jobs cycles (t .jobs) (of .runs-of .cycles-of) planned ∙ ap cyclesOf jobs);
         };
     turns-counted = refl;
   }

@@ -7,14 +7,13 @@ use native.Mathlib.Omega.{arith}
 use lib.ListN.{getD, length, take}
 use lib.Seq.{getD-take, length-take-le}
 use Rattle.columns.proofs.Ranges.{columns-in-range}
-use Rattle.columns.specs.Columns.{ColumnsOf, TermsOf}
+use Rattle.columns.specs.Columns.{Columns, ColumnsOf, TermsOf}
 use Rattle.columns.specs.Ranges.{ColumnsInRange, TermsInRange}
-use Rattle.columns.specs.declared.Columns.{Columns}
 use Rattle.columns.specs.declared.Terms.{Terms}
 use Rattle.laws.proofs.Elements.{each-at-place}
 use Rattle.grammar.proofs.Ranges.{SpeedRanges, clock-ranges, hold-ranges, speed-ranges}
-use Rattle.plans.specs.Courses.{CourseLeft, DecisionLeft}
-use Rattle.plans.specs.Promises.{Concludable, CourseRunnable, DecidedAs, PlacesOfJobs, Plannable, PlannableBy, RoomsNoted, Totalled, Whole}
+use Rattle.plans.specs.Courses.{CourseLeft}
+use Rattle.plans.specs.Promises.{Concludable, CourseRunnable, PlacesOfJobs, Plannable, PlannableBy, Totalled, Whole}
 use Rattle.rules.specs.Lists.{Each, lastOr}
 use Rattle.rules.specs.Plan.{topOf}
 use Rattle.rules.specs.TableText.{Record, Records, inRange, mostHolds, mostJobs, mostSpeeds, noHold, noSpeed, recordsOf, tableWithBudget, withBudget}
@@ -97,10 +96,10 @@ module _ (table : Table) (budget : ℕ) (p : Plannable table budget) (all-speeds
     ranges : ColumnsInRange columns
     ranges = columns-in-range (recordsOf table .jobs) columns (p .valid .job-ranges) of
 
-    pub table-runnable : length (table .holds) ≡ mostHolds → length (table .jobs) ≡ mostJobs
+    pub table-runnable : length (table .holds) ≡ mostHolds → length (table .jobs) ≡ mostJobs → length (columns .worth) ≡ mostJobs
         → CourseRunnable (table .holds) (table .«hold_count») columns terms
     unfolding recordsOf
-    table-runnable all-holds all-jobs = record {
+    table-runnable all-holds all-jobs all-worths = record {
       holdable =
           record {
             few-holds = p .few-holds;
@@ -112,6 +111,7 @@ module _ (table : Table) (budget : ℕ) (p : Plannable table budget) (all-speeds
                 .resource-to;
           };
       columns-small = ranges;
+      worth-whole = all-worths;
       terms-small = terms-in-range;
       table = withBudget (recordsOf table) budget;
       of-table = record { valid = p .valid; terms-of = terms-of-table all-jobs; holds-of = refl; columns-of = of };
@@ -139,25 +139,15 @@ same-terms t e of = rw e of
 
 -- a table that can be planned with a budget, with that budget in its T
 pub by-its-parts : (table : Table) (budget : ℕ) (columns : Columns) → Plannable table budget → length (table .jobs) ≡ mostJobs
-    → ColumnsOf (recordsOf table .jobs) columns → PlannableBy (tableWithBudget table budget) columns
+    → ColumnsOf (recordsOf table .jobs) columns → length (columns .worth) ≡ mostJobs
+    → PlannableBy (tableWithBudget table budget) columns
 unfolding recordsOf
-by-its-parts table budget columns p all of = record {
+by-its-parts table budget columns p all of whole = record {
   whole = all;
   plannable = record { valid = p .valid; few-speeds = p .few-speeds; few-jobs = p .few-jobs; few-holds = p .few-holds };
   columns-of = of;
+  worth-whole = whole;
 }
-
--- what is decided for it is the plan with the budget beside the table
-pub decided-beside : (table : Table) (budget : ℕ) (d : DecisionLeft) → DecidedAs (recordsOf (tableWithBudget table budget)) d
-    → DecidedAs (withBudget (recordsOf table) budget) d
-unfolding recordsOf
-decided-beside table budget d decided = decided
-
-pub noted-beside : (table : Table) (budget count : ℕ) (order rooms : List ℕ)
-    → RoomsNoted (recordsOf (tableWithBudget table budget)) count order rooms
-    → RoomsNoted (withBudget (recordsOf table) budget) count order rooms
-unfolding recordsOf
-noted-beside table budget count order rooms noted = noted
 
 -- in a valid table the count is that of the jobs
 pub jobs-counted : (table : Table) (budget : ℕ) → length (table .jobs) ≡ mostJobs → Plannable table budget

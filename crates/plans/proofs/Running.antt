@@ -9,8 +9,7 @@ use lib.Seq.{getD-take, length-take-le}
 use Rattle.chains.specs.Promises.{Deadlines, Holders}
 use Rattle.chains.specs.Waits.{HolderAt}
 use Rattle.chains.specs.Stage.{Stage}
-use Rattle.columns.specs.Columns.{AllBelow, ColumnsOf, TermsOf}
-use Rattle.columns.specs.declared.Columns.{Columns}
+use Rattle.columns.specs.Columns.{AllBelow, Columns, ColumnsOf, TermsOf}
 use Rattle.columns.specs.declared.Terms.{Terms}
 use Rattle.laws.proofs.Elements.{each-at-place}
 use Rattle.plans.proofs.Noting.{rooms-noted}

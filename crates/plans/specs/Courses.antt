@@ -38,7 +38,7 @@ pub record DecisionLeft : Type 0 where
   pub speed : Speed
   pub energy : ℕ
   pub turns : ℕ
-  pub cycles : ℕ
+  pub room : ℕ
 
 abbrev pub decisionLeft : List ℕ → List ℕ → Decided → DecisionLeft
 decisionLeft places fates d = record {
@@ -48,7 +48,7 @@ decisionLeft places fates d = record {
   speed = d .speed;
   energy = d .energy;
   turns = d .turns;
-  cycles = d .cycles;
+  room = d .room;
 }
 
 -- the job at a place

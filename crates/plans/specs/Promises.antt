@@ -6,16 +6,15 @@ use Prim.Native.Nat.{ℕ, _+_, _-_, _*_, _≤_, _<_}
 use lib.ListN.{getD, length, set, take}
 use Rattle.chains.specs.Promises.{Holdable}
 use Rattle.chains.specs.Stage.{FatesSoFar}
-use Rattle.columns.specs.Columns.{AllBelow, ColumnsOf, TermsOf, jobsAt}
+use Rattle.columns.specs.Columns.{AllBelow, Columns, ColumnsOf, TermsOf, jobsAt}
 use Rattle.columns.specs.Ranges.{ColumnsInRange, RunsInRange, TermsInRange}
-use Rattle.columns.specs.declared.Columns.{Columns}
 use Rattle.columns.specs.declared.Terms.{Terms}
 use Rattle.entries.specs.Promises.{cyclesAt}
 use Rattle.laws.specs.Pairs.{among}
 use Rattle.plans.specs.Courses.{CourseLeft, DecisionLeft, FatesByTurn, Turns, courseBy, jobAt, roomBy}
 use Rattle.rules.specs.Answers.{decisionSays, panelSays}
-use Rattle.rules.specs.Plan.{AfterPlanning, Course, chainOf, courseOf, cyclesOf, fateIn, fatePlanned, inPlan, leavesPlan, planOf, ratioOf, runOrder}
-use Rattle.rules.specs.Rooms.{AfterRooms, TurnRoom, leavesRooms, roomsOf}
+use Rattle.rules.specs.Plan.{AfterPlanning, Course, chainOf, courseOf, fateIn, fatePlanned, inPlan, leavesPlan, planOf, ratioOf, runOrder}
+use Rattle.rules.specs.Rooms.{AfterRooms, TurnRoom, lastRoom, leavesRooms, roomsOf}
 use Rattle.rules.specs.TableText.{Records, mostHolds, mostJobs, mostSpeeds, noSpeed, recordsOf, withBudget}
 use Rattle.rules.specs.Valid.{Valid}
 use Rattle.rules.specs.declared.Decision.{Decision}
@@ -105,10 +104,11 @@ pub record CourseOf (t : Records) (holds : List Hold) (hold-count : ℕ) (column
   pub holds-of : take hold-count holds ≡ t .holds
   pub columns-of : ColumnsOf (t .jobs) columns
 
--- Counts, resources, columns and terms in their ranges, and a table that they are of.
+-- Counts, resources, columns and terms in their ranges, a whole column of worths, and a table that they are of.
 pub record CourseRunnable (holds : List Hold) (hold-count : ℕ) (columns : Columns) (terms : Terms) : Type 0 where
   pub holdable : Holdable holds hold-count (terms .«job_count»)
   pub columns-small : ColumnsInRange columns
+  pub worth-whole : length (columns .worth) ≡ mostJobs
   pub terms-small : TermsInRange terms
   pub table : Records
   pub of-table : CourseOf table holds hold-count columns terms
@@ -151,14 +151,15 @@ pub record Concludable (speeds : List Speed) (speed-count : ℕ) (cycles termina
   pub runs-small : RunsInRange cycles termination
   pub terms-small : TermsInRange terms
 
--- What is decided is the rules' plan: its jobs by their places, a fate for each job, the speed and the energy, and all cycles.
+-- What is decided is the rules' plan: its jobs by their places, a fate for each job, the speed and the energy, and the room
+-- that is left at the end.
 pub record DecidedAs (t : Records) (d : DecisionLeft) : Type 0 where
   pub placed : PlacesOfJobs (d .count) (d .places)
   pub jobs : jobsAt (t .jobs) (take (d .count) (d .places)) ≡ planOf t .jobs
   pub fates : (i : ℕ) → i < length (t .jobs) → getD (d .fates) i 0 ≡ fateIn t (courseOf t) (jobAt t i)
   pub speed : d .speed ≡ planOf t .speed
   pub energy : d .energy ≡ planOf t .energy
-  pub cycles : d .cycles ≡ cyclesOf (planOf t .jobs)
+  pub room : d .room ≡ lastRoom t
 
 pub record Concluded (speeds : List Speed) (speed-count : ℕ) (cycles termination : List ℕ) (course : CourseLeft) (terms : Terms)
     (r : DecisionLeft) : Type 0 where
@@ -194,11 +195,12 @@ assembled clock budget speeds speed-count holds hold-count job-count jobs = reco
   holds = holds;
 }
 
--- It can be planned, and the columns are those of its jobs.
+-- It can be planned, and the columns are those of its jobs; that of the worths, which is written over, is whole.
 pub record PlannableBy (table : Table) (columns : Columns) : Type 0 where
   pub whole : length (table .jobs) ≡ mostJobs
   pub plannable : Plannable table (table .budget)
   pub columns-of : ColumnsOf (recordsOf table .jobs) columns
+  pub worth-whole : length (columns .worth) ≡ mostJobs
 
 -- The parts of some table that can be planned, and what is decided for each table of these parts.
 abbrev pub Decidable : (clock budget : ℕ) (speeds : List Speed) (speed-count : ℕ) (holds : List Hold) (hold-count job-count : ℕ)

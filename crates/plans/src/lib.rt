@@ -6,6 +6,7 @@ use chains::holders;
 use columns::Terms;
 use entries::NOT_PLANNED;
 use filling::clear_behind;
+use filling::name_order;
 use filling::note;
 use filling::put_fates;
 use filling::put_order;
@@ -43,13 +44,13 @@ pub struct CourseTaken {
 }
 
 // The decision, beside the plan's places and each job's fate in lent columns: how many places they are, the speed and the
-// energy; how many turns there were, and the plan record's total.
+// energy; how many turns there were, and the room that is left at the end, by the plan record's total.
 pub struct Decided {
     pub count: usize,
     pub speed: Speed,
     pub energy: u64,
     pub turns: usize,
-    pub cycles: u64,
+    pub room: u64,
 }
 
 // Document 02, A2: "how much budget the plan leaves at top cost", from the plan record.
@@ -80,11 +81,13 @@ fn note_turn(
 }
 
 // Step 5, "Turns": each of these jobs in its turn, from the empty plan. Its fate is put over that of steps 1 and 2, which is 0, and
-// the turn is noted. The ends are lent to be written over.
+// the turn is noted. The ends and the latest beginnings are lent to be
+// written over.
 fn take_turns<'a>(
     places: &mut [u64; MOST_JOBS],
     fates: &mut [u64; MOST_JOBS],
     ends: &mut [u64; MOST_JOBS],
+    latests: &mut [u64; MOST_JOBS],
     turns: &'a [u64; MOST_JOBS],
     turn_count: usize,
     over: &'a [u64; MOST_JOBS],
@@ -96,14 +99,13 @@ fn take_turns<'a>(
     order: &mut [u64],
     rooms: &mut [u64],
 ) -> Totals
-    requires { ⌜ (length (now places) ≡ mostJobs) × (length (now ends) ≡ mostJobs) × Takeable (turnsBy (now turns) «turn_count») (now over) (columnsRead (now waits) (now critical) (now cycles) (now deadline)) (now fates) terms ⌝ }
+    requires { ⌜ (length (now places) ≡ mostJobs) × (length (now ends) ≡ mostJobs) × (length (now latests) ≡ mostJobs) × Takeable (turnsBy (now turns) «turn_count») (now over) (columnsRead (now waits) (now critical) (now cycles) (now deadline)) (now fates) terms ⌝ }
     ensures { λ r. ⌜
         TurnsTaken (turnsBy (now (turns .entry)) «turn_count») (now (over .entry)) (columnsRead (now (waits .entry)) (now (critical .entry)) (now (cycles .entry)) (now (deadline .entry))) (now (fates .entry)) terms (courseLeft (now (places .exit)) (now (fates .exit)) r «turn_count»)
         × TurnsNoted «turn_count» (turnsBy (now (turns .entry)) «turn_count») (now (over .entry)) (columnsRead (now (waits .entry)) (now (critical .entry)) (now (cycles .entry)) (now (deadline .entry))) (now (fates .entry)) terms (now (order .entry)) (now (rooms .entry)) (now (order .exit)) (now (rooms .exit))
         ⌝ }
 {
     let mut keys = [NOT_PLANNED; MOST_JOBS];
-    let mut latests = [0; MOST_JOBS];
     let mut changed = [0; MOST_CHANGES];
     let mut fresh = [0; MOST_CHANGES];
     let mut totals = Totals {
@@ -121,7 +123,7 @@ fn take_turns<'a>(
             places,
             &mut keys,
             ends,
-            &mut latests,
+            latests,
             &mut changed,
             &mut fresh,
             totals,
@@ -154,8 +156,8 @@ fn mark_planned(fates: &mut [u64; MOST_JOBS], places: &[u64])
 }
 
 // Steps 1 to 7: the course of all turns, noted as `take_turns` notes it. The columns are lent one by one: by value they would be
-// copied once more. Two are lent twice, for they need not be filled anew: that of the turns first for marks, and that of the
-// chains' cycles, once the turns are in order, for the ends.
+// copied once more. Three are lent twice, for they need not be filled anew: that of the turns first for marks, and, once the turns
+// are in order, that of the chains' cycles for the ends and that of the worths for the latest beginnings.
 pub fn course_of<'a>(
     places: &mut [u64; MOST_JOBS],
     fates: &mut [u64; MOST_JOBS],
@@ -163,7 +165,7 @@ pub fn course_of<'a>(
     hold_count: usize,
     number: &'a [u64; MOST_JOBS],
     cycles: &'a [u64; MOST_JOBS],
-    worth: &'a [u64; MOST_JOBS],
+    worth: &mut [u64; MOST_JOBS],
     critical: &'a [u64; MOST_JOBS],
     termination: &'a [u64; MOST_JOBS],
     request: &'a [u64; MOST_JOBS],
@@ -213,6 +215,7 @@ pub fn course_of<'a>(
         places,
         fates,
         &mut under,
+        worth,
         &turns,
         turn_count,
         &over,
@@ -265,7 +268,7 @@ fn conclude<'a>(
         speed: speed,
         energy: chosen.energy,
         turns: course.turns,
-        cycles: all_cycles,
+        room: room_left(all_cycles, terms),
     }
 }
 
@@ -304,7 +307,7 @@ pub fn decide<'a>(
     job_count: usize,
     number: &'a [u64; MOST_JOBS],
     cycles: &'a [u64; MOST_JOBS],
-    worth: &'a [u64; MOST_JOBS],
+    worth: &mut [u64; MOST_JOBS],
     critical: &'a [u64; MOST_JOBS],
     termination: &'a [u64; MOST_JOBS],
     request: &'a [u64; MOST_JOBS],
@@ -356,7 +359,7 @@ pub fn plan_table<'a>(
     job_count: usize,
     number: &'a [u64; MOST_JOBS],
     cycles: &'a [u64; MOST_JOBS],
-    worth: &'a [u64; MOST_JOBS],
+    worth: &mut [u64; MOST_JOBS],
     critical: &'a [u64; MOST_JOBS],
     termination: &'a [u64; MOST_JOBS],
     request: &'a [u64; MOST_JOBS],
@@ -409,7 +412,7 @@ pub fn rooms_of<'a>(
     job_count: usize,
     number: &'a [u64; MOST_JOBS],
     cycles: &'a [u64; MOST_JOBS],
-    worth: &'a [u64; MOST_JOBS],
+    worth: &mut [u64; MOST_JOBS],
     critical: &'a [u64; MOST_JOBS],
     termination: &'a [u64; MOST_JOBS],
     request: &'a [u64; MOST_JOBS],
@@ -419,7 +422,6 @@ pub fn rooms_of<'a>(
     requires { ⌜ Decidable clock budget speeds «speed_count» holds «hold_count» «job_count» (besides (now number) (now cycles) (now worth) (now critical) (now termination) (now request)) × (mostJobs ≤ length (now turns)) × (mostJobs ≤ length (now rooms)) ⌝ }
     ensures { λ r. ⌜ LeavesRoomsOf clock budget speeds «speed_count» holds «hold_count» «job_count» (besides (now (number .entry)) (now (cycles .entry)) (now (worth .entry)) (now (critical .entry)) (now (termination .entry)) (now (request .entry))) (now (turns .entry)) (now (rooms .entry)) (tells r (now (turns .exit)) (now (rooms .exit))) ⌝ }
 {
-    let mut order = [0; MOST_JOBS];
     let mut places = [0; MOST_JOBS];
     let mut by_job = [NO_FATE; MOST_JOBS];
     let decided = decide(
@@ -438,15 +440,14 @@ pub fn rooms_of<'a>(
         critical,
         termination,
         request,
-        &mut order,
+        turns,
         rooms,
     );
     let count = decided.turns;
-    put_order(turns, &order[..count], number);
+    name_order(turns, count, number);
     clear_behind(rooms, count);
-    let terms = terms_of(clock, budget, speeds, speed_count, job_count);
     Panel::Told {
         turns: count,
-        room: room_left(decided.cycles, terms),
+        room: decided.room,
     }
 }

@@ -1,5 +1,5 @@
 mod Trail
 mod SumsBack
-mod Placed
-mod Sorted
+mod Merged
+mod Runs
 mod Ordered

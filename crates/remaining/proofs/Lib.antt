@@ -1,4 +1,6 @@
+mod Ending
 mod FilledTo
 mod Marks
+mod Settling
 mod Staging
 mod Unawaited

@@ -7,9 +7,11 @@ use Prim.Native.Nat.{ℕ, _+_, _≤_, _<_}
 use native.Mathlib.Omega.{arith}
 use borrow.Author.Tests.{eqb-false, eqb-true}
 use lib.Dec.{eqb}
-use lib.ListN.{getD, length, length-set, set}
+use lib.ListN.{getD, length, length-replicate, length-set, replicate, set}
 use lib.Seq.{getD-set-other, getD-set-same}
+use Rattle.columns.proofs.Stored.{zeros-at}
 use Rattle.laws.proofs.Choices.{split}
+use Rattle.remaining.proofs.Settling.{ends-stay}
 use Rattle.remaining.specs.Promises.{Awaited, NobodyWaits}
 use Rattle.rules.specs.TableText.{mostJobs}
 
@@ -22,8 +24,12 @@ module _ (waits : List ℕ) where
       (λ (h : eqb k i ≡ true). other (sym (ap (λ n. getD waits n 0) (eqb-true k i h)) ∙ e))
       (λ (h : eqb k i ≡ false). nobody k (omega (arith, eqb-false k i h)) e)
 
-  pub nothing-marked : (marks : List ℕ) → length marks ≡ mostJobs → Awaited waits 0 marks
-  nothing-marked marks whole = record { whole = whole; unmarked = λ place l z k m e. omega arith }
+  pub nothing-marked : (marks : List ℕ) → marks ≡ replicate mostJobs 0 → Awaited waits 0 marks
+  nothing-marked marks zeros = record {
+    whole = ap length zeros ∙ length-replicate {A = ℕ} mostJobs 0;
+    unmarked = λ place l z k m e. omega arith;
+    ended = λ place e. absurd (omega (arith, ap (λ xs. getD xs place 0) zeros, zeros-at mostJobs place, e));
+  }
 
   -- a job that waits for nobody
   pub none-to-mark : (i : ℕ) (marks : List ℕ) → Awaited waits i marks → mostJobs ≤ getD waits i 0
@@ -31,6 +37,7 @@ module _ (waits : List ℕ) where
   none-to-mark i marks so-far beyond = record {
     whole = so-far .whole;
     unmarked = λ place l z. not-that-one place i (so-far .unmarked place l z) (λ e. omega arith);
+    ended = so-far .ended;
   }
 
   -- a job that waits for one, which has its mark now
@@ -45,10 +52,12 @@ module _ (waits : List ℕ) where
         λ e. omega (arith, marked, ap (λ n. getD (set marks (getD waits i 0) 1) n 0) e) in
         not-that-one place i
         (so-far .unmarked place l (sym (getD-set-other marks (getD waits i 0) place 1 0 (λ e. other (sym e))) ∙ z)) other;
+    ended = ends-stay waits marks (getD waits i 0) 1 (omega (arith, so-far .whole)) (λ e. absurd (omega arith)) (so-far .ended);
   }
 
   pub all-marked : (i count : ℕ) (marks : List ℕ) → count ≤ i → Awaited waits i marks → Awaited waits count marks
   all-marked i count marks l so-far = record {
     whole = so-far .whole;
     unmarked = λ place m z k n. so-far .unmarked place m z k (omega arith);
+    ended = so-far .ended;
   }

@@ -3,7 +3,7 @@ use mathlib.Core.Bool.{Bool, cond}
 use mathlib.Core.List.{List}
 use mathlib.Core.Option.{Option}
 use mathlib.Core.Path.{_≡_}
-use Prim.Native.Nat.{ℕ, _<_}
+use Prim.Native.Nat.{ℕ, _≤_, _<_}
 use lib.Dec.{eqb}
 use lib.ListN.{getD, length}
 use Rattle.chains.specs.Stage.{Stage, fateIfLate}
@@ -11,6 +11,7 @@ use Rattle.chains.specs.Waits.{HolderAt, Remaining, Waits}
 use Rattle.columns.specs.Columns.{AtMost, Column, RunsOf, TermsOf}
 use Rattle.columns.specs.Ranges.{RunsInRange, TermsInRange}
 use Rattle.columns.specs.declared.Terms.{Terms}
+use Rattle.remaining.specs.Ends.{EndMarks, Ends}
 use Rattle.rules.specs.Lists.{Rising, keep}
 use Rattle.rules.specs.Plan.{awaited, fateDeadlock, leavesRing, waitsFor}
 use Rattle.rules.specs.TableText.{Records, mostJobs, mostResource, mostWorth, noJob}
@@ -34,15 +35,28 @@ pub record WaitsColumn (request holder-at fates : List ℕ) (job-count : ℕ) (r
 abbrev pub NobodyWaits : List ℕ → ℕ → ℕ → Type 0
 NobodyWaits waits count place = (k : ℕ) → k < count → getD waits k 0 ≡ place → ⊥
 
--- Where 0 stands, none of the jobs waits for the one there.
+-- Where 0 stands, none of the jobs waits for the one there; where 2 stands, the walk from there ends.
 pub record Awaited (waits : List ℕ) (job-count : ℕ) (r : List ℕ) : Type 0 where
   pub whole : length r ≡ mostJobs
   pub unmarked : (place : ℕ) → place < mostJobs → getD r place 0 ≡ 0 → NobodyWaits waits job-count place
+  pub ended : EndMarks waits r
 
--- The fate before, or 3 for a job of fate 0 that leaves its ring, provided that nobody waits for a job that is not awaited.
-pub record RingFate (late awaits place : ℕ) (waits number worth cycles : List ℕ) (r : ℕ) : Type 0 where
+-- How a walk comes out: 2 only where it ends, and never 0.
+pub record WalkEnd (place : ℕ) (waits : List ℕ) (r : ℕ) : Type 0 where
+  pub known : 2 ≤ r
+  pub ends : r ≡ 2 → Ends waits place
+
+-- Marks of which none was made 0, and none 2 but where a walk ends.
+pub record Settled (waits before r : List ℕ) : Type 0 where
+  pub whole : length r ≡ mostJobs
+  pub unmarked : (place : ℕ) → getD r place 0 ≡ 0 → getD before place 0 ≡ 0
+  pub ended : EndMarks waits r
+
+-- The fate before, or 3 for a job of fate 0 that leaves its ring, provided that nobody waits for a job of mark 0 and that the
+-- walk from one of mark 2 ends.
+pub record RingFate (late mark place : ℕ) (waits number worth cycles : List ℕ) (r : ℕ) : Type 0 where
   pub fate : (t : Records) (js : List Job) (next : Job → Option Job)
-      → (awaits ≡ 0 → NobodyWaits waits (length js) place) → Rising (λ j. j .number) js
+      → (mark ≡ 0 → NobodyWaits waits (length js) place) → (mark ≡ 2 → Ends waits place) → Rising (λ j. j .number) js
       → Waits js next waits → place < length js → Column (λ j. j .number) js number
       → Column (λ j. j .worth) js worth → Column (λ j. j .cycles) js cycles
       → r

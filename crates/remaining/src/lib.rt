@@ -7,19 +7,28 @@ use chains::waits_for;
 use columns::Terms;
 use rules::FATE_DEADLOCK;
 use rules::FATE_LATE;
+use rules::MOST_HOLDS;
 use rules::MOST_JOBS;
 use rules::NO_FATE;
 ghost use mathlib.Core.Bool.{cond, not};
 ghost use mathlib.Core.Path.{_≡_};
 ghost use Prim.Native.Nat.{_≤_, _<_};
-ghost use lib.ListN.{length};
+ghost use lib.ListN.{length, replicate};
 ghost use Rattle.chains.specs.Promises.{Comparable};
 ghost use Rattle.columns.specs.Columns.{AtMost};
 ghost use Rattle.columns.specs.Ranges.{RunsInRange, TermsInRange};
-ghost use Rattle.remaining.specs.Promises.{Awaited, LateFates, RingFate, RingFates};
-ghost use Rattle.remaining.specs.Promises.{Stageable, Staged, WaitsColumn};
+ghost use Rattle.remaining.specs.Ends.{EndMarks};
+ghost use Rattle.remaining.specs.Promises.{Awaited, LateFates, RingFate, RingFates, Settled};
+ghost use Rattle.remaining.specs.Promises.{Stageable, Staged, WaitsColumn, WalkEnd};
 ghost use Rattle.rules.specs.Plan.{endsBy, fateLate};
 ghost use Rattle.rules.specs.TableText.{mostCycles, mostHolds, mostJobs, mostWorth};
+
+// Step 2, "On each ring of waiting jobs": the mark of a job from which the walk along whom each waits for ends, at one who waits
+// for nobody, so that the job is on no ring.
+const WALK_ENDS: u64 = 2;
+
+// The mark of a job from which the walk did not end in 33 steps.
+const WALK_GOES_ON: u64 = 3;
 
 // Step 1, "A job with now + its run time at top speed > termination is taken out (fate 2)": 0 for one that remains.
 fn fate_if_late(clock: u64, mhz: u64, cycles: u64, termination: u64) -> u64
@@ -71,9 +80,9 @@ fn waits_column<'a>(
     }
 }
 
-// Step 2, "A job waits for the remaining job": a mark, 1, at the place of each job that some job waits for.
+// Step 2, "A job waits for the remaining job": a mark, 1, at the place of each job that some job waits for, and 0 at the others.
 fn mark_awaited(marks: &mut [u64; MOST_JOBS], waits: &[u64; MOST_JOBS], job_count: usize)
-    requires { ⌜ («job_count» ≤ mostJobs) × (length (now marks) ≡ mostJobs) ⌝ }
+    requires { ⌜ («job_count» ≤ mostJobs) × (now marks ≡ replicate mostJobs 0) ⌝ }
     ensures { λ _. ⌜ Awaited (now (waits .entry)) «job_count» (now (marks .exit)) ⌝ }
 {
     let mut i = 0;
@@ -87,11 +96,67 @@ fn mark_awaited(marks: &mut [u64; MOST_JOBS], waits: &[u64; MOST_JOBS], job_coun
     }
 }
 
+// Step 2, "On each ring of waiting jobs": how the walk from this place comes out, as a mark. It stops at the mark of an earlier
+// walk.
+fn walk_end(place: usize, marks: &[u64; MOST_JOBS], waits: &[u64; MOST_JOBS]) -> u64
+    requires { ⌜ EndMarks (now waits) (now marks) ⌝ }
+    ensures { λ r. ⌜ WalkEnd place (now (waits .entry)) r ⌝ }
+{
+    let mut at = place;
+    let mut i = 0;
+    while i <= MOST_HOLDS {
+        if MOST_JOBS <= at {
+            return WALK_ENDS;
+        }
+        let mark = marks[at];
+        if WALK_ENDS <= mark {
+            return mark;
+        }
+        at = waits[at] as usize;
+        i += 1;
+    }
+    WALK_GOES_ON
+}
+
+// Step 2, "On each ring of waiting jobs": how the walk from this place comes out, as a mark at each place of it, up to the
+// first that has such a mark already.
+fn mark_walk(place: usize, end: u64, marks: &mut [u64; MOST_JOBS], waits: &[u64; MOST_JOBS])
+    requires { ⌜ (length (now marks) ≡ mostJobs) × EndMarks (now waits) (now marks) × WalkEnd place (now waits) end ⌝ }
+    ensures { λ _. ⌜ Settled (now (waits .entry)) (now (marks .entry)) (now (marks .exit)) ⌝ }
+{
+    let mut at = place;
+    let mut i = 0;
+    while i <= MOST_HOLDS {
+        if MOST_JOBS <= at {
+            return;
+        }
+        if WALK_ENDS <= marks[at] {
+            return;
+        }
+        marks[at] = end;
+        at = waits[at] as usize;
+        i += 1;
+    }
+}
+
+// Step 2, "On each ring of waiting jobs": the walk from an awaited job of which nothing more is known, a mark of 1, is
+// walked and marked.
+fn settle(place: usize, marks: &mut [u64; MOST_JOBS], waits: &[u64; MOST_JOBS])
+    requires { ⌜ (place < mostJobs) × (length (now marks) ≡ mostJobs) × EndMarks (now waits) (now marks) ⌝ }
+    ensures { λ _. ⌜ Settled (now (waits .entry)) (now (marks .entry)) (now (marks .exit)) ⌝ }
+{
+    if marks[place] != 1 {
+        return;
+    }
+    let end = walk_end(place, marks, waits);
+    mark_walk(place, end, marks, waits);
+}
+
 // Step 2, "On each ring of waiting jobs, the one .. is taken out (fate 3)": the fate of the job at this place, from the
-// one that step 1 gave it. A job for which nobody waits, `awaited` 0, is on no ring, and its chain is not walked.
+// one that step 1 gave it. A job for which nobody waits, mark 0, is on no ring, nor is one whose walk ends, mark 2.
 fn ring_fate<'a>(
     late: u64,
-    awaited: u64,
+    mark: u64,
     place: usize,
     waits: &'a [u64; MOST_JOBS],
     number: &'a [u64; MOST_JOBS],
@@ -99,12 +164,15 @@ fn ring_fate<'a>(
     cycles: &'a [u64; MOST_JOBS],
 ) -> u64
     requires { ⌜ (place < mostJobs) × AtMost mostWorth (now worth) × AtMost mostCycles (now cycles) ⌝ }
-    ensures { λ r. ⌜ RingFate late awaited place (now (waits .entry)) (now (number .entry)) (now (worth .entry)) (now (cycles .entry)) r ⌝ }
+    ensures { λ r. ⌜ RingFate late mark place (now (waits .entry)) (now (number .entry)) (now (worth .entry)) (now (cycles .entry)) r ⌝ }
 {
     if late != NO_FATE {
         return late;
     }
-    if awaited == 0 {
+    if mark == 0 {
+        return NO_FATE;
+    }
+    if mark == WALK_ENDS {
         return NO_FATE;
     }
     if leaves_ring(place, waits, number, worth, cycles) {
@@ -113,8 +181,7 @@ fn ring_fate<'a>(
     NO_FATE
 }
 
-// Step 2, "On each ring": to the fates of step 1, 3 at the place of each job that leaves its ring. The marks may stand anyhow before:
-// a mark too many only has a chain walked.
+// Step 2, "On each ring": to the fates of step 1, 3 at the place of each job that leaves its ring. The marks are lent as zeros.
 fn ring_fates<'a>(
     fates: &mut [u64; MOST_JOBS],
     marks: &mut [u64; MOST_JOBS],
@@ -124,12 +191,13 @@ fn ring_fates<'a>(
     cycles: &'a [u64; MOST_JOBS],
     job_count: usize,
 )
-    requires { ⌜ (length (now fates) ≡ mostJobs) × (length (now marks) ≡ mostJobs) × («job_count» ≤ mostJobs) × AtMost mostWorth (now worth) × AtMost mostCycles (now cycles) ⌝ }
+    requires { ⌜ (length (now fates) ≡ mostJobs) × (now marks ≡ replicate mostJobs 0) × («job_count» ≤ mostJobs) × AtMost mostWorth (now worth) × AtMost mostCycles (now cycles) ⌝ }
     ensures { λ _. ⌜ (length (now (marks .exit)) ≡ mostJobs) × RingFates (now (fates .entry)) (now (waits .entry)) (now (number .entry)) (now (worth .entry)) (now (cycles .entry)) «job_count» (now (fates .exit)) ⌝ }
 {
     mark_awaited(marks, waits, job_count);
     let mut i = 0;
     while i < job_count {
+        settle(i, marks, waits);
         let fate = ring_fate(fates[i], marks[i], i, waits, number, worth, cycles);
         fates[i] = fate;
         i += 1;
@@ -137,7 +205,7 @@ fn ring_fates<'a>(
 }
 
 // Steps 1 and 2: a fate for each job taken out, 0 for the others, and whom each job waits for among the others. It is looked up
-// twice: among the timely, to find the rings, and among those that step 2 leaves. The marks are lent to be written over.
+// twice: among the timely, to find the rings, and among those that step 2 leaves. The marks are lent as zeros, to be written over.
 pub fn take_out<'a>(
     fates: &mut [u64; MOST_JOBS],
     waits: &mut [u64; MOST_JOBS],
@@ -150,7 +218,7 @@ pub fn take_out<'a>(
     request: &'a [u64; MOST_JOBS],
     terms: Terms,
 )
-    requires { ⌜ (length (now marks) ≡ mostJobs) × Stageable (now fates) (now waits) (now cycles) (now worth) (now termination) (now request) terms ⌝ }
+    requires { ⌜ (now marks ≡ replicate mostJobs 0) × Stageable (now fates) (now waits) (now cycles) (now worth) (now termination) (now request) terms ⌝ }
     ensures { λ _. ⌜ (length (now (marks .exit)) ≡ mostJobs) × Staged (now («holder_at» .entry)) (now (number .entry)) (now (cycles .entry)) (now (worth .entry)) (now (termination .entry)) (now (request .entry)) terms (now (fates .exit)) (now (waits .exit)) ⌝ }
 {
     late_fates(fates, cycles, termination, terms);

@@ -1,5 +1,5 @@
 // The lines of ./plan --rooms, into a lent buffer: for each turn its number, its job, the room after it and the fate that it gave.
-use columns::columns_of;
+use checks::check_table;
 use plans::course_of;
 use plans::terms_of;
 use reader::read;
@@ -17,7 +17,7 @@ ghost use Rattle.digits.specs.Rows.{tabRows};
 ghost use Rattle.listing.specs.Listed.{wrote};
 ghost use Rattle.plans.specs.Promises.{Plannable};
 ghost use Rattle.roomlines.specs.Promises.{NumbersOf, RoomRows, TurnPlaces, mostRowNumbers, rowFields};
-ghost use Rattle.rules.specs.Refusals.{taken, written};
+ghost use Rattle.rules.specs.Refusals.{check, taken, written};
 ghost use Rattle.rules.specs.Rooms.{roomLinesFor, roomListing, roomListingWith};
 ghost use Rattle.rules.specs.TableText.{recordsOf, withBudget};
 
@@ -53,12 +53,26 @@ fn room_rows<'a>(
     filled
 }
 
-// The same of a valid table, with the budget beside it.
+// The same of a table that was read, with the budget beside it. The check is there to make the columns: it refuses nothing.
 fn rows_of(table: Table, budget: u64, rows: &mut [u64; MOST_ROW_NUMBERS]) -> usize
-    requires { ⌜ Plannable table budget × (length (now rows) ≡ mostRowNumbers) ⌝ }
+    requires { ⌜ Plannable table budget × (check table ≡ taken (recordsOf table)) × (length (now rows) ≡ mostRowNumbers) ⌝ }
     ensures { λ r. ⌜ NumbersOf (roomLinesFor (taken (withBudget (recordsOf table) budget))) (now (rows .exit)) r ⌝ }
 {
-    let columns = columns_of(table);
+    let mut number = [0; MOST_JOBS];
+    let mut cycles = [0; MOST_JOBS];
+    let mut worth = [0; MOST_JOBS];
+    let mut critical = [0; MOST_JOBS];
+    let mut termination = [0; MOST_JOBS];
+    let mut request = [0; MOST_JOBS];
+    check_table(
+        &mut number,
+        &mut cycles,
+        &mut worth,
+        &mut critical,
+        &mut termination,
+        &mut request,
+        table,
+    );
     let speeds = table.speeds;
     let holds = table.holds;
     let terms = terms_of(
@@ -77,17 +91,17 @@ fn rows_of(table: Table, budget: u64, rows: &mut [u64; MOST_ROW_NUMBERS]) -> usi
         &mut fates,
         holds,
         table.hold_count,
-        &columns.number,
-        &columns.cycles,
-        &columns.worth,
-        &columns.critical,
-        &columns.termination,
-        &columns.request,
+        &number,
+        &cycles,
+        &mut worth,
+        &critical,
+        &termination,
+        &request,
         terms,
         &mut order,
         &mut rooms,
     );
-    room_rows(course.turns, &order, &rooms, &columns.number, &fates, rows)
+    room_rows(course.turns, &order, &rooms, &number, &fates, rows)
 }
 
 // The tab lines of these numbers, where there is room for them.
@@ -103,7 +117,7 @@ fn list_rows(rows: &[u64], out: &mut [u8]) -> Written
 
 // The lines of a valid table, with the budget beside it, where there is room for them.
 fn list_table(table: Table, budget: u64, out: &mut [u8]) -> Written
-    requires { ⌜ Plannable table budget ⌝ }
+    requires { ⌜ Plannable table budget × (check table ≡ taken (recordsOf table)) ⌝ }
     ensures { λ r. ⌜ wrote r (now (out .exit)) ≡ written (roomLinesFor (taken (withBudget (recordsOf table) budget))) (now (out .entry)) ⌝ }
 {
     let mut rows = [0; MOST_ROW_NUMBERS];

@@ -9,8 +9,7 @@ use native.Mathlib.Omega.{arith}
 use lib.ListN.{length, drop, drop-of-length-le, getD, length-append, length-map, take}
 use lib.Seq.{drop-append-add, drop-append-le, getD-take, length-take-le}
 use Rattle.checks.proofs.Places.{record-at}
-use Rattle.columns.specs.Columns.{ColumnsOf}
-use Rattle.columns.specs.declared.Columns.{Columns}
+use Rattle.columns.specs.Columns.{Columns, ColumnsOf}
 use Rattle.rules.specs.Lists.{joined}
 use Rattle.rules.specs.TableText.{Record, Records, lined, noHold, noJob, noSpeed, recordText, recordsOf, textOf}
 use Rattle.rules.specs.declared.Table.{Table}

@@ -5,7 +5,7 @@ use Prim.Native.Nat.{ℕ, suc, _≤_, _<_}
 use lib.ListN.{length, drop, getD, take}
 use Rattle.grammar.specs.Longest.{mostBytes}
 use Rattle.rules.specs.TableText.{Record, lineText, lined, mostHolds, mostJobs, mostSpeeds, noHold, noJob, noSpeed, recordText, recordsOf, textOf, mostFields}
-use Rattle.columns.specs.declared.Columns.{Columns}
+use Rattle.columns.specs.Columns.{Columns}
 use Rattle.rules.specs.declared.Job.{Job}
 use Rattle.rules.specs.declared.Table.{Table}
 use Rattle.writer.specs.declared.LineRecord.{LineRecord}

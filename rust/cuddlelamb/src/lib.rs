@@ -40,7 +40,7 @@
 //! - A refusal names its number and the line it means; no byte and no place of a lent buffer has then changed.
 //! - It answers the same for the same input. It keeps nothing from one call to the next, does not use the heap, and may
 //!   be called from several threads at once.
-//! - It takes at most 24,000 bytes of stack: measured, not proved.
+//! - It takes at most 16,000 bytes of stack: measured, not proved.
 //!
 //! The library is linked, always: no environment variable is read, and no other process answers. On x86-64 it is the
 //! archive that `rt staticlib boundary` makes; elsewhere, with the feature `native`, the one that `tools/native` makes of

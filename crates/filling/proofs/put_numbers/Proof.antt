@@ -1,27 +1,18 @@
 -- `filling::put_numbers` meets its contract. Up to i the part holds the numbers, from there on what it held.
 -- The measure is what is left of the length. Assumes nothing.
-use mathlib.Core.Path.{_≡_, sym, ap, _∙_}
-use mathlib.Core.List.{List, map}
-use Prim.Native.Nat.{ℕ, _+_, _-_, _≤_, _<_}
+use mathlib.Core.Path.{_≡_, _∙_}
+use mathlib.Core.List.{map}
+use Prim.Native.Nat.{_-_, _≤_, _<_}
 use native.Mathlib.Omega.{arith}
-use lib.ListN.{List·getD-map, getD, length, length-map, length-set, set}
+use lib.ListN.{getD, length, length-map, length-set}
 use lib.Seq.{take-all}
 use Rattle.rules.specs.TableText.{mostJobs}
 use Rattle.laws.specs.Overwritten.{overwritten}
-use Rattle.laws.proofs.Overwritten.{all-overwritten, one-more-overwritten}
+use Rattle.laws.proofs.Overwritten.{all-overwritten}
+use Rattle.filling.proofs.Numbers.{one-more-number}
 use borrow.Author.Needs.{needs}
 use Rattle.filling.proofs.put_numbers.Statement.{statement}
 use Rattle.filling.proofs.put_numbers.Tie as tie
-
--- one number more
-one-more-number : (number places part : List ℕ) (i : ℕ) → i < length places → i < length part
-    → set (overwritten (map (λ p. getD number p 0) places) part i) i (getD number (getD places i 0) 0)
-    ≡ overwritten (map (λ p. getD number p 0) places) part (i + 1)
-one-more-number number places part i h l =
-    ap (λ n. set (overwritten (map (λ p. getD number p 0) places) part i) i n)
-    (sym (List·getD-map (λ p. getD number p 0) places i 0))
-    ∙ one-more-overwritten (map (λ p. getD number p 0) places) part i (getD number 0 0)
-    (omega (arith, length-map places (λ p. getD number p 0))) l
 
 abbrev Inv-loop : tie.InvT-loop
 Inv-loop part₀ places number i₀ part i =

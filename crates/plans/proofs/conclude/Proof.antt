@@ -36,15 +36,20 @@ mark-planned-requires : tie.Need-mark-planned-requires
 mark-planned-requires c κs =
     let pre = c .before .before .before .before .before .before .pre in (pre .whole .fates-whole, pre .placed .below)
 
+room-left-requires : tie.Need-room-left-requires
+room-left-requires c κs = c .before .before .before .before .before .before .before .pre .totalled .within
+
 returns : tie.Need-returns
 returns c =
-    let chosen = c .before .before .before in
+    let marked = c .before in
+    let chosen = marked .before .before .before in
     let start = chosen .before .before .before .before in
     let args = start .args in
-    steps-8-and-9 (args .speeds) (args .speed-count) (args .cycles .now) (args .termination .now)
+    rw (c .room-left .ensures)
+    (steps-8-and-9 (args .speeds) (args .speed-count) (args .cycles .now) (args .termination .now)
     (courseLeft (args .places .now) (args .fates .now) (args .course .totals) (args .course .turns)) (args .terms)
-    (chosen .choose-speed .result) (c .mark-planned .last .0) (start .pre .whole) (start .pre .placed) (start .pre .totalled)
-    (chosen .choose-speed .ensures) (c .mark-planned .ensures)
+    (chosen .choose-speed .result) (marked .mark-planned .last .0) (start .pre .whole) (start .pre .placed) (start .pre .totalled)
+    (chosen .choose-speed .ensures) (marked .mark-planned .ensures))
 
 pub conclude-spec : {M : Type 1} → statement M
 conclude-spec =
@@ -53,4 +58,5 @@ conclude-spec =
     slice-aggregate-planned
     choose-speed-requires
     mark-planned-requires
+    room-left-requires
     returns)

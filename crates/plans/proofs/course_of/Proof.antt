@@ -5,8 +5,7 @@ use Prim.Native.Nat.{ℕ, _≤_}
 use native.Mathlib.Omega.{arith}
 use lib.ListN.{take}
 use Rattle.chains.specs.Stage.{Stage}
-use Rattle.columns.specs.Columns.{AllBelow, besides}
-use Rattle.columns.specs.declared.Columns.{Columns}
+use Rattle.columns.specs.Columns.{AllBelow, Columns, besides}
 use Rattle.plans.proofs.Running.{staged-by, steps-1-to-7, turns-noted, turns-of}
 use Rattle.plans.specs.Courses.{turnsBy}
 use borrow.Author.Needs.{needs}
@@ -18,13 +17,13 @@ abbrev ranked : tie.After-turn-order → tie.After-chain-ratios
 ranked c = c .before .before .before .before .before
 
 abbrev due : tie.After-chain-ratios → tie.After-deadlines
-due c = c .before .before .before .before .before .before
+due c = c .before .before .before .before .before .before .before
 
 abbrev staged : tie.After-deadlines → tie.After-take-out
 staged c = c .before .before
 
 abbrev held : tie.After-take-out → tie.After-holders
-held c = c .before .before .before .before .before
+held c = c .before .before .before .before .before .before
 
 abbrev started : tie.After-holders → tie.Start
 started c = c .before .before .before .before
@@ -39,7 +38,7 @@ holders-requires c κs = (refl, c .before .before .before .pre .1 .holdable)
 
 take-out-requires : tie.Need-take-out-requires
 take-out-requires c κs =
-    let pre = started (c .before .before .before .before) .pre in (
+    let pre = started (c .before .before .before .before .before) .pre in (
       refl,
       record {
         fates-whole = pre .0 .fates-whole;
@@ -66,7 +65,7 @@ stage-of c =
 
 chain-ratios-requires : tie.Need-chain-ratios-requires
 chain-ratios-requires c κs =
-    let left = staged (c .before .before .before .before .before) in
+    let left = staged (c .before .before .before .before .before .before) in
     let pre = started (held left) .pre .1 in (
       refl,
       refl,
@@ -99,7 +98,7 @@ below-most n m xs h below i l = omega (arith, below i l)
 
 take-turns-requires : tie.Need-take-turns-requires
 take-turns-requires c κs =
-    let ordered = c .before .before .before .before .before .before .before .before .before .before in
+    let ordered = c .before .before .before .before .before .before .before .before .before .before .before in
     let told = ranked ordered in
     let left = staged (due told) in
     let start = started (held left) in
@@ -109,6 +108,7 @@ take-turns-requires c κs =
     let few-jobs = pre .terms-small .job-count in (
       start .pre .0 .places-whole,
       told .chain-ratios .ensures .under-whole,
+      pre .worth-whole,
       record {
         order-whole = in-order .whole;
         fates-whole = left .take-out .ensures .1 .fates-whole;
@@ -139,7 +139,7 @@ same-length-2 c = c .before .before .before .before .take-turns .ensures .1 .roo
 returns : tie.Need-returns
 returns c =
     let taken = c .before .before .before .before in
-    let ordered = taken .before .before .before .before .before .before .before .before .before .before .before in
+    let ordered = taken .before .before .before .before .before .before .before .before .before .before .before .before in
     let told = ranked ordered in
     let left = staged (due told) in
     let start = started (held left) in

@@ -8,8 +8,7 @@ use lib.ListN.{length, take}
 use Rattle.plans.proofs.Deciding.{same-terms, some-speed, table-concludable, table-runnable, terms-of-table}
 use Rattle.plans.specs.Courses.{CourseLeft, courseLeft, decisionLeft}
 use Rattle.plans.specs.Promises.{DecidedAs, PlannableBy, assembled}
-use Rattle.columns.specs.Columns.{TermsOf, besides}
-use Rattle.columns.specs.declared.Columns.{Columns}
+use Rattle.columns.specs.Columns.{Columns, TermsOf, besides}
 use Rattle.rules.specs.TableText.{mostHolds, mostSpeeds, recordsOf}
 use Rattle.rules.specs.declared.Job.{Job}
 use Rattle.rules.specs.declared.Table.{Table}
@@ -53,19 +52,19 @@ terms-of-requires c κs = let start = c .before .before in (speeds-there start, 
 
 -- the terms, and what stood before them
 abbrev begun : tie.After-course-of → tie.After-terms-of
-begun c = c .before .before .before .before .before
+begun c = c .before .before .before .before .before .before
 
 abbrev started : tie.After-course-of → tie.Start
 started c = begun c .before .before .before
 
 course-of-requires : tie.Need-course-of-requires
 course-of-requires c κs =
-    let terms = c .before .before .before .before in
+    let terms = c .before .before .before .before .before in
     let start = terms .before .before .before in (
       start .pre .0,
       rw (terms .terms-of .ensures)
           (table-runnable (table start) (start .args .budget) (start .pre .1 .1 .plannable) (all-speeds start) (columns start)
-          (start .pre .1 .1 .columns-of) (all-holds start) (start .pre .1 .1 .whole)),
+          (start .pre .1 .1 .columns-of) (all-holds start) (start .pre .1 .1 .whole) (start .pre .1 .1 .worth-whole)),
     )
 
 -- what the course left

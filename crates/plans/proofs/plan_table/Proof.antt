@@ -4,8 +4,7 @@ use mathlib.Core.Path.{_≡_, refl, sym}
 use native.Mathlib.Omega.{arith}
 use lib.ListN.{length, take}
 use lib.Seq.{length-take-le}
-use Rattle.columns.specs.Columns.{besides}
-use Rattle.columns.specs.declared.Columns.{Columns}
+use Rattle.columns.specs.Columns.{Columns, besides}
 use Rattle.plans.proofs.Deciding.{jobs-counted}
 use Rattle.plans.proofs.Leaving.{buffers-left}
 use Rattle.plans.specs.Courses.{DecisionLeft, decisionLeft}
@@ -34,7 +33,7 @@ decision c = decisionLeft (c .decide .last .0) (c .decide .last .1 .0) (c .decid
 
 -- what stood at the start
 abbrev started : tie.After-decide → tie.Start
-started c = c .before .before .before .before .before .before .before
+started c = c .before .before .before .before .before .before .before .before
 
 -- what was decided, of any table of these parts, and of the one that is asked for
 decided-as : (c : tie.After-decide) (jobs : List Job) → PlannableBy (tableFor (started c) jobs) (columns (started c))
@@ -63,7 +62,7 @@ slice-aggregate-decide-2 c = search needs
 
 decide-requires : tie.Need-decide-requires
 decide-requires c κs =
-    (record { places-whole = refl; fates-whole = refl }, c .before .before .before .before .before .before .pre .0)
+    (record { places-whole = refl; fates-whole = refl }, c .before .before .before .before .before .before .before .pre .0)
 
 array-share-prefix-places : tie.Need-array-share-prefix-places
 array-share-prefix-places c =

@@ -37,11 +37,11 @@ nothing-standing places whole = record {
   cycles-small = omega arith;
 }
 
-nothing-kept : (cycles deadline ends : List ℕ) → length ends ≡ mostJobs
-    → KeptTrue cycles deadline [] (keptOf ends (replicate mostJobs 0))
-nothing-kept cycles deadline ends whole = record {
+nothing-kept : (cycles deadline ends latests : List ℕ) → length ends ≡ mostJobs → length latests ≡ mostJobs
+    → KeptTrue cycles deadline [] (keptOf ends latests)
+nothing-kept cycles deadline ends latests whole whole' = record {
   ends-length = whole;
-  latests-length = refl;
+  latests-length = whole';
   ends-true = λ i h. absurd (omega arith);
   latests-true = λ i l h. absurd (omega arith);
 }
@@ -53,7 +53,7 @@ all-taken : (t : Records) (order : List ℕ) (n i : ℕ) (keys : List ℕ) (r : 
 all-taken t order n i keys r e rising on = rw (sym e) (at-end t (courseBy t order i) r keys rising on)
 
 abbrev Inv-loop : tie.InvT-loop
-Inv-loop places₀ fates₀ ends₀ turns turn-count over waits critical cycles deadline terms order₀ rooms₀ keys₀ latests₀ changed₀ fresh₀ totals₀ i₀ places fates ends order rooms keys latests changed fresh totals i =
+Inv-loop places₀ fates₀ ends₀ latests₀ turns turn-count over waits critical cycles deadline terms order₀ rooms₀ keys₀ changed₀ fresh₀ totals₀ i₀ places fates ends latests order rooms keys changed fresh totals i =
     let in-order = turnsBy turns turn-count in
     (i ≤ turn-count)
     × PlanStanding (planParts totals places keys)
@@ -67,14 +67,14 @@ Inv-loop places₀ fates₀ ends₀ turns turn-count over waits critical cycles 
     × TurnsNoted i in-order over (columnsRead waits critical cycles deadline) fates₀ terms order₀ rooms₀ order rooms
 
 abbrev μ-loop : tie.MeasureT-loop
-μ-loop places₀ fates₀ ends₀ turns turn-count over waits critical cycles deadline terms order₀ rooms₀ keys₀ latests₀ changed₀ fresh₀ totals₀ i₀ places fates ends order rooms keys latests changed fresh totals i =
+μ-loop places₀ fates₀ ends₀ latests₀ turns turn-count over waits critical cycles deadline terms order₀ rooms₀ keys₀ changed₀ fresh₀ totals₀ i₀ places fates ends latests order rooms keys changed fresh totals i =
     turn-count - i
 
 abbrev turnsIn : tie.Start Inv-loop μ-loop → Turns
 turnsIn c = turnsBy (c .args .turns .now) (c .args .turn-count)
 
 turns-there : (c : tie.Start Inv-loop μ-loop) → c .args .turn-count ≤ length (c .args .turns .now)
-turns-there c = omega (arith, c .pre .2 .order-whole, c .pre .2 .few-turns)
+turns-there c = omega (arith, c .pre .3 .order-whole, c .pre .3 .few-turns)
 
 abbrev columns : tie.Start Inv-loop μ-loop → TurnColumns
 columns c =
@@ -93,7 +93,7 @@ place-below c =
     omega (
       arith,
       getD-take (turns .count) (turns .order) i 0 (c .loop-test .taken),
-      start .pre .2 .below i
+      start .pre .3 .below i
           (omega (arith, length-take-le (turns .count) (turns .order) (turns-there start), c .loop-test .taken)),
     )
 
@@ -103,18 +103,18 @@ loop-holds c =
     let args = start .args in (
       omega arith,
       nothing-standing (args .places .now) (start .pre .0),
-      start .pre .2 .fates-whole,
+      start .pre .3 .fates-whole,
       λ t of. at-start t (turnsIn start) (args .over .now) (columns start) (args .fates .now) (args .terms) of _ _,
       record { total-true = refl; within = omega arith },
-      (nothing-kept (args .cycles .now) (args .deadline .now) (args .ends .now) (start .pre .1), refl, refl),
+      (nothing-kept (args .cycles .now) (args .deadline .now) (args .ends .now) (args .latests .now) (start .pre .1) (start .pre .2), refl, refl),
       nothing-noted (turnsIn start) (args .over .now) (columns start) (args .fates .now) (args .terms) (args .order .now) (args .rooms .now),
     )
 
 mul-place : tie.Need-mul-place Inv-loop μ-loop
-mul-place c = omega (arith, started c .pre .2 .few-turns)
+mul-place c = omega (arith, started c .pre .3 .few-turns)
 
 element-copy-out-place : tie.Need-element-copy-out-place Inv-loop μ-loop
-element-copy-out-place c = omega (arith, started c .pre .2 .few-turns)
+element-copy-out-place c = omega (arith, started c .pre .3 .few-turns)
 
 mul-note-turn : tie.Need-mul-note-turn Inv-loop μ-loop
 mul-note-turn c = omega (arith, place-below (c .before))
@@ -125,7 +125,7 @@ element-copy-out-note-turn c = place-below (c .before)
 turn-requires : tie.Need-turn-requires Inv-loop μ-loop
 turn-requires c κs =
     let inside = c .before .before .before .before .before .before .before .before in
-    let pre = started inside .pre .2 in
+    let pre = started inside .pre .3 in
     let args = started inside .args in
     let loop = inside .before .loop in
     record {
@@ -165,7 +165,7 @@ note-turn-requires c κs = within-after (c .before .before)
 add-i : tie.Need-add-i Inv-loop μ-loop
 add-i c =
     let inside = in-turn (c .before .before .before .before .before .before .before) in
-    omega (arith, inside .loop-test .taken, started inside .pre .2 .few-turns)
+    omega (arith, inside .loop-test .taken, started inside .pre .3 .few-turns)
 
 loop-less : tie.Need-loop-less Inv-loop μ-loop
 loop-less c = search needs

@@ -48,7 +48,7 @@ enum-told-2 : tie.Need-enum-told-2
 enum-told-2 c = search needs
 
 list-table-requires : tie.Need-list-table-requires
-list-table-requires c κs = let r = read-it (c .before .before) in r .plannable _ (r .own-budget)
+list-table-requires c κs = let r = read-it (c .before .before) in (r .plannable _ (r .own-budget), r .checked)
 
 same-length-2 : tie.Need-same-length-2
 same-length-2 c = search needs

@@ -84,7 +84,7 @@ returns-2 c =
 list-table-requires : tie.Need-list-table-requires
 list-table-requires c κs =
     let tested = c .before .before in
-    read-it (tested .before .before) .plannable _ (in-range tested)
+    let r = read-it (tested .before .before) in (r .plannable _ (in-range tested), r .checked)
 
 same-length-3 : tie.Need-same-length-3
 same-length-3 c = search needs

@@ -18,7 +18,7 @@ stored-length : (c : tie.After-rows-of) → length (stored c) ≡ c .rows-of .re
 stored-length c = length-take-le _ _ (omega (arith, c .rows-of .ensures .few, c .rows-of .ensures .whole))
 
 rows-of-requires : tie.Need-rows-of-requires
-rows-of-requires c κs = (c .before .before .pre, refl)
+rows-of-requires c κs = let start = c .before .before in (start .pre .0, start .pre .1, refl)
 
 array-share-prefix-rows : tie.Need-array-share-prefix-rows
 array-share-prefix-rows c = search needs

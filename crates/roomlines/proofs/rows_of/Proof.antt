@@ -5,7 +5,7 @@ use mathlib.Core.Path.{_≡_, refl, sym, _∙_}
 use Prim.Native.Nat.{ℕ, _≤_}
 use native.Mathlib.Omega.{arith}
 use lib.ListN.{length, length-map, take}
-use Rattle.columns.specs.Columns.{TermsOf}
+use Rattle.columns.specs.Columns.{Columns, ColumnsOf, TermsOf, besides}
 use Rattle.plans.proofs.Deciding.{same-terms, some-speed, table-runnable, terms-of-table}
 use Rattle.plans.specs.Courses.{CourseLeft, courseLeft}
 use Rattle.plans.specs.Promises.{CourseBy, RoomsNoted}
@@ -38,19 +38,35 @@ records c = withBudget (recordsOf (c .args .table)) (c .args .budget)
 
 -- what stood when the terms were known, when the columns were, and at the start
 abbrev termed : tie.After-course-of → tie.After-terms-of
-termed c = c .before .before .before .before .before .before .before .before .before .before .before .before
+termed c = c .before .before .before .before .before .before .before .before .before .before .before
 
-abbrev columned : tie.After-terms-of → tie.After-columns-of
+abbrev columned : tie.After-terms-of → tie.After-check-table
 columned c = c .before .before .before
 
-abbrev started : tie.After-columns-of → tie.Start
-started c = c .before
+abbrev started : tie.After-check-table → tie.Start
+started c = c .before .before .before .before .before .before .before
 
 abbrev begun : tie.After-course-of → tie.Start
 begun c = started (columned (termed c))
 
-columns-of-requires : tie.Need-columns-of-requires
-columns-of-requires c κs = search needs
+-- the columns that the check left are those of the table
+abbrev columnsAfter : tie.After-check-table → Columns
+columnsAfter c =
+    besides (c .check-table .last .0) (c .check-table .last .1 .0) (c .check-table .last .1 .1 .0) (c .check-table .last .1 .1 .1 .0)
+    (c .check-table .last .1 .1 .1 .1 .0) (c .check-table .last .1 .1 .1 .1 .1 .0)
+
+columns-of : (c : tie.After-check-table) → ColumnsOf (recordsOf (started c .args .table) .jobs) (columnsAfter c)
+columns-of c = c .check-table .ensures .columns (started c .pre .1)
+
+check-table-requires : tie.Need-check-table-requires
+check-table-requires c κs = record {
+  number = refl;
+  cycles = refl;
+  worth = refl;
+  critical = refl;
+  termination = refl;
+  request = refl;
+}
 
 terms-of-requires : tie.Need-terms-of-requires
 terms-of-requires c κs =
@@ -65,13 +81,13 @@ slice-aggregate-course-of-2 c = search needs
 
 course-of-requires : tie.Need-course-of-requires
 course-of-requires c κs =
-    let terms = c .before .before .before .before .before .before .before .before .before .before .before in
+    let terms = c .before .before .before .before .before .before .before .before .before .before in
     let columns = columned terms in
     let start = started columns in (
       record { places-whole = refl; fates-whole = refl },
       rw (terms .terms-of .ensures)
-          (table-runnable (start .args .table) (start .args .budget) (start .pre .0) (all-speeds start) (columns .columns-of .result)
-          (columns .columns-of .ensures) (all-holds start) (all-jobs start)),
+          (table-runnable (start .args .table) (start .args .budget) (start .pre .0) (all-speeds start) (columnsAfter columns)
+          (columns-of columns) (all-holds start) (all-jobs start) (columns .check-table .ensures .worth-whole (start .pre .1))),
     )
 
 -- what is noted of the course
@@ -100,48 +116,48 @@ course-by : (c : tie.After-course-of) → CourseBy (records (begun c)) (courseOf
 course-by c =
     let start = begun c in
     c .course-of .ensures .0 .course (records start) (start .pre .0 .valid) (terms-beside c)
-    (holds-of (start .args .table) (start .args .budget)) (columned (termed c) .columns-of .ensures)
+    (holds-of (start .args .table) (start .args .budget)) (columns-of (columned (termed c)))
 
 noted : (c : tie.After-course-of)
     → RoomsNoted (records (begun c)) (c .course-of .result .turns) (orderAfter c) (roomsAfter c)
 noted c =
     let start = begun c in
     c .course-of .ensures .1 .noted (records start) (start .pre .0 .valid) (terms-beside c)
-    (holds-of (start .args .table) (start .args .budget)) (columned (termed c) .columns-of .ensures) (omega arith) (omega arith)
+    (holds-of (start .args .table) (start .args .budget)) (columns-of (columned (termed c))) (omega arith) (omega arith)
 
 places-noted : (c : tie.After-course-of) → c .course-of .result .turns ≤ length (orderAfter c)
 places-noted c = omega (arith, c .course-of .ensures .1 .order-whole, c .course-of .ensures .1 .few)
 
 room-rows-requires : tie.Need-room-rows-requires
 room-rows-requires c κs =
-    let ran = c .before .before .before .before .before .before .before .before in
+    let ran = c .before .before .before .before .before .before .before in
     let start = begun ran in (
       turn-places (records start) (start .pre .0 .valid) (ran .course-of .result .turns) (orderAfter ran) (roomsAfter ran)
-          (columned (termed ran) .columns-of .result .number) (fatesAfter ran) (noted ran)
-          (columned (termed ran) .columns-of .ensures .number) (course-by ran .fates) (places-noted ran)
+          (columnsAfter (columned (termed ran)) .number) (fatesAfter ran) (noted ran)
+          (columns-of (columned (termed ran)) .number) (course-by ran .fates) (places-noted ran)
           (ran .course-of .ensures .1 .few),
-      start .pre .1,
+      start .pre .2,
     )
 
 returns : tie.Need-returns
 returns c =
-    let ran = c .before .before .before .before .before .before .before .before .before in
+    let ran = c .before .before .before .before .before .before .before .before in
     let start = begun ran in
     let t = records start in
     let course = ran .course-of .result in
-    let columns = columned (termed ran) .columns-of in
+    let columns = columned (termed ran) in
     rw (sym (lines-of-rows t))
     (c .room-rows .ensures (roomsOf t)
-    (rows-counted t (start .pre .0 .valid) (course .turns) (orderAfter ran) (roomsAfter ran) (columns .result .number) (fatesAfter ran)
-    (noted ran) (columns .ensures .number) (course-by ran .fates) (places-noted ran))
-    (rows-by t (start .pre .0 .valid) (course .turns) (orderAfter ran) (roomsAfter ran) (columns .result .number) (fatesAfter ran)
-    (noted ran) (columns .ensures .number) (course-by ran .fates) (places-noted ran)))
+    (rows-counted t (start .pre .0 .valid) (course .turns) (orderAfter ran) (roomsAfter ran) (columnsAfter columns .number) (fatesAfter ran)
+    (noted ran) (columns-of columns .number) (course-by ran .fates) (places-noted ran))
+    (rows-by t (start .pre .0 .valid) (course .turns) (orderAfter ran) (roomsAfter ran) (columnsAfter columns .number) (fatesAfter ran)
+    (noted ran) (columns-of columns .number) (course-by ran .fates) (places-noted ran)))
 
 pub rows-of-spec : {M : Type 1} → statement M
 rows-of-spec =
     tie.close
     (tie.spec
-    columns-of-requires
+    check-table-requires
     terms-of-requires
     slice-aggregate-course-of
     slice-aggregate-course-of-2

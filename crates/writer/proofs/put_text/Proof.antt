@@ -9,8 +9,7 @@ use native.Mathlib.Omega.{arith}
 use lib.ListN.{length}
 use lib.Seq.{length-take-le}
 use Rattle.digits.proofs.PutSoFar.{PutSoFar, all-put, nothing-put, part-fits, part-put}
-use Rattle.columns.specs.Columns.{besides}
-use Rattle.columns.specs.declared.Columns.{Columns}
+use Rattle.columns.specs.Columns.{Columns, besides}
 use Rattle.rules.specs.TableText.{recordsOf, textOf}
 use Rattle.writer.proofs.Lines.{job-writes, no-text-left, row-next, text-from-first, textFrom}
 use Rattle.writer.specs.Lines.{StandsOn, Writes, recordOn, rowText}

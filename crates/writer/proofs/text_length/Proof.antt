@@ -6,8 +6,7 @@ use Prim.Native.Nat.{_+_, _-_, _≤_, _<_}
 use native.Mathlib.Omega.{arith}
 use lib.ListN.{length, length-append}
 use lib.Seq.{length-take-le}
-use Rattle.columns.specs.Columns.{besides}
-use Rattle.columns.specs.declared.Columns.{Columns}
+use Rattle.columns.specs.Columns.{Columns, besides}
 use Rattle.rules.specs.TableText.{recordsOf, textOf}
 use Rattle.writer.proofs.Lines.{job-writes, no-text-left, row-next, text-from-first, textFrom}
 use Rattle.writer.specs.Lines.{StandsOn, Writes, recordOn, rowText}

@@ -5,8 +5,7 @@ use mathlib.Core.Path.{_≡_, refl, sym, ap, _∙_}
 use native.Mathlib.Omega.{arith}
 use lib.ListN.{length-map}
 use Rattle.checks.proofs.Exactly.{done-exactly, refused-exactly}
-use Rattle.columns.specs.Columns.{ColumnsOf, besides}
-use Rattle.columns.specs.declared.Columns.{Columns}
+use Rattle.columns.specs.Columns.{Columns, ColumnsOf, besides}
 use Rattle.rules.specs.Answers.{verdictSays}
 use Rattle.rules.specs.Refusals.{check, taken}
 use Rattle.rules.specs.TableText.{recordsOf}
