@@ -30,6 +30,27 @@ pub record CourseLeft : Type 0 where
 abbrev pub courseLeft : List ℕ → List ℕ → Totals → ℕ → CourseLeft
 courseLeft places fates totals turns = record { places = places; fates = fates; totals = totals; turns = turns }
 
+-- What steps 1 and 2 leave: the fates of those taken out, whom each job waits for, and the columns that the steps behind them read.
+pub record LeftColumns : Type 0 where
+  pub fates : List ℕ
+  pub waits : List ℕ
+  pub number : List ℕ
+  pub cycles : List ℕ
+  pub worth : List ℕ
+  pub critical : List ℕ
+  pub termination : List ℕ
+
+abbrev pub leftBeside : List ℕ → List ℕ → List ℕ → List ℕ → List ℕ → List ℕ → List ℕ → LeftColumns
+leftBeside fates waits number cycles worth critical termination = record {
+  fates = fates;
+  waits = waits;
+  number = number;
+  cycles = cycles;
+  worth = worth;
+  critical = critical;
+  termination = termination;
+}
+
 -- What is decided, beside the columns that it is told in.
 pub record DecisionLeft : Type 0 where
   pub places : List ℕ

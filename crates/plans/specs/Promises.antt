@@ -5,17 +5,17 @@ use mathlib.Core.Path.{_≡_}
 use Prim.Native.Nat.{ℕ, _+_, _-_, _*_, _≤_, _<_}
 use lib.ListN.{getD, length, set, take}
 use Rattle.chains.specs.Promises.{Holdable}
-use Rattle.chains.specs.Stage.{FatesSoFar}
-use Rattle.columns.specs.Columns.{AllBelow, Columns, ColumnsOf, TermsOf, jobsAt}
+use Rattle.chains.specs.Stage.{FatesSoFar, Stage}
+use Rattle.columns.specs.Columns.{AllBelow, AtMost, Column, Columns, ColumnsOf, TermsOf, jobsAt}
 use Rattle.columns.specs.Ranges.{ColumnsInRange, RunsInRange, TermsInRange}
 use Rattle.columns.specs.declared.Terms.{Terms}
 use Rattle.entries.specs.Promises.{cyclesAt}
 use Rattle.laws.specs.Pairs.{among}
-use Rattle.plans.specs.Courses.{CourseLeft, DecisionLeft, FatesByTurn, Turns, courseBy, jobAt, roomBy}
+use Rattle.plans.specs.Courses.{CourseLeft, DecisionLeft, FatesByTurn, LeftColumns, Turns, courseBy, jobAt, roomBy}
 use Rattle.rules.specs.Answers.{decisionSays, panelSays}
 use Rattle.rules.specs.Plan.{AfterPlanning, Course, chainOf, courseOf, fateIn, fatePlanned, inPlan, leavesPlan, planOf, ratioOf, runOrder}
 use Rattle.rules.specs.Rooms.{AfterRooms, TurnRoom, lastRoom, leavesRooms, roomsOf}
-use Rattle.rules.specs.TableText.{Records, mostHolds, mostJobs, mostSpeeds, noSpeed, recordsOf, withBudget}
+use Rattle.rules.specs.TableText.{Records, mostHolds, mostJobs, mostSpeeds, mostTime, mostWorth, noSpeed, recordsOf, withBudget}
 use Rattle.rules.specs.Valid.{Valid}
 use Rattle.rules.specs.declared.Decision.{Decision}
 use Rattle.rules.specs.declared.Hold.{Hold}
@@ -97,6 +97,34 @@ pub record TurnsNoted (n : ℕ) (turns : Turns) (over : List ℕ) (c : TurnColum
   pub room-noted : (t : Records) → TurnsOf t turns over c so-far terms → (k : ℕ) → k < n → k < length order → k < length rooms
       → getD rooms' k 0 ≡ roomBy t (turns .order) (k + 1)
 
+-- Steps 1 and 2 leave this of a valid table with these terms.
+pub record LeftOf (t : Records) (c : LeftColumns) (terms : Terms) : Type 0 where
+  pub valid : Valid t
+  pub terms-of : TermsOf t terms
+  pub stage : Stage t (c .fates) (c .waits)
+  pub number-of : Column (λ j. j .number) (t .jobs) (c .number)
+  pub cycles-of : Column (λ j. j .cycles) (t .jobs) (c .cycles)
+  pub worth-of : Column (λ j. j .worth) (t .jobs) (c .worth)
+  pub critical-of : Column (λ j. j .critical) (t .jobs) (c .critical)
+  pub termination-of : Column (λ j. j .termination) (t .jobs) (c .termination)
+
+-- Columns and terms in their ranges, a whole column of worths, and a table of which steps 1 and 2 leave them.
+pub record LeftRunnable (c : LeftColumns) (terms : Terms) : Type 0 where
+  pub runs-small : RunsInRange (c .cycles) (c .termination)
+  pub worth-small : AtMost mostWorth (c .worth)
+  pub critical-small : AtMost mostTime (c .critical)
+  pub worth-whole : length (c .worth) ≡ mostJobs
+  pub terms-small : TermsInRange terms
+  pub table : Records
+  pub of-table : LeftOf table c terms
+
+-- The course of the turns of those that are left.
+pub record LeftRun (c : LeftColumns) (terms : Terms) (r : CourseLeft) : Type 0 where
+  pub whole : Whole (r .places) (r .fates)
+  pub placed : PlacesOfJobs (r .totals .count) (r .places)
+  pub totalled : Totalled (r .totals) (r .places) (c .cycles) terms
+  pub course : (t : Records) → LeftOf t c terms → CourseBy t (courseOf t) r
+
 -- A valid table has these terms, holds and columns.
 pub record CourseOf (t : Records) (holds : List Hold) (hold-count : ℕ) (columns : Columns) (terms : Terms) : Type 0 where
   pub valid : Valid t
@@ -126,6 +154,14 @@ pub record RoomsNoted (t : Records) (count : ℕ) (order rooms : List ℕ) : Typ
   pub below : AllBelow (length (t .jobs)) (take count order)
   pub row-jobs : jobsAt (t .jobs) (take count order) ≡ map (λ (r : TurnRoom). r .job) (roomsOf t)
   pub row-rooms : take count rooms ≡ map (λ (r : TurnRoom). r .room) (roomsOf t)
+
+-- What is noted of the turns of those that are left, where there is a place for each.
+pub record LeftNoted (c : LeftColumns) (terms : Terms) (turns : ℕ) (order rooms order' rooms' : List ℕ) : Type 0 where
+  pub few : turns ≤ mostJobs
+  pub order-whole : length order' ≡ length order
+  pub rooms-whole : length rooms' ≡ length rooms
+  pub noted : (t : Records) → LeftOf t c terms → mostJobs ≤ length order → mostJobs ≤ length rooms
+      → RoomsNoted t turns order' rooms'
 
 -- What is noted of the table's turns, where there is a place for each.
 pub record CourseNoted (holds : List Hold) (hold-count : ℕ) (columns : Columns) (terms : Terms) (turns : ℕ)

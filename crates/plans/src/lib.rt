@@ -31,8 +31,8 @@ ghost use mathlib.Core.Path.{_≡_};
 ghost use Prim.Native.Nat.{_-_, _*_, _≤_};
 ghost use lib.ListN.{length};
 ghost use Rattle.columns.specs.Columns.{AllBelow, besides};
-ghost use Rattle.plans.specs.Courses.{courseLeft, decisionLeft, turnsBy};
-ghost use Rattle.plans.specs.Promises.{Concludable, Concluded, CourseNoted, CourseRun, CourseRunnable, Decidable, Decides, DecisionNoted, LeavesPlanOf, LeavesRoomsOf, Marked, Takeable, TurnNoted, TurnsNoted, TurnsTaken, Whole, leaves, tells, termsBy};
+ghost use Rattle.plans.specs.Courses.{courseLeft, decisionLeft, leftBeside, turnsBy};
+ghost use Rattle.plans.specs.Promises.{Concludable, Concluded, CourseNoted, CourseRun, CourseRunnable, Decidable, Decides, DecisionNoted, LeavesPlanOf, LeavesRoomsOf, LeftNoted, LeftRun, LeftRunnable, Marked, Takeable, TurnNoted, TurnsNoted, TurnsTaken, Whole, leaves, tells, termsBy};
 ghost use Rattle.rules.specs.TableText.{mostJobs, mostSpeeds};
 ghost use Rattle.trials.specs.Promises.{columnsRead};
 
@@ -155,9 +155,69 @@ fn mark_planned(fates: &mut [u64; MOST_JOBS], places: &[u64])
     }
 }
 
-// Steps 1 to 7: the course of all turns, noted as `take_turns` notes it. The columns are lent one by one: by value they would be
-// copied once more. Three are lent twice, for they need not be filled anew: that of the turns first for marks, and, once the turns
-// are in order, that of the chains' cycles for the ends and that of the worths for the latest beginnings.
+// Steps 3 to 7, of what steps 1 and 2 leave: the ratios of the chains, the turns in their order, and the turns taken, noted as
+// `take_turns` notes them. Columns that need not be filled anew are lent again: once the turns are in order, that of the chains' cycles
+// for the ends and that of the worths for the latest beginnings.
+fn run_turns<'a>(
+    places: &mut [u64; MOST_JOBS],
+    fates: &mut [u64; MOST_JOBS],
+    turns: &mut [u64; MOST_JOBS],
+    waits: &'a [u64; MOST_JOBS],
+    number: &'a [u64; MOST_JOBS],
+    cycles: &'a [u64; MOST_JOBS],
+    worth: &mut [u64; MOST_JOBS],
+    critical: &'a [u64; MOST_JOBS],
+    termination: &'a [u64; MOST_JOBS],
+    terms: Terms,
+    order: &mut [u64],
+    rooms: &mut [u64],
+) -> CourseTaken
+    requires { ⌜ Whole (now places) (now fates) × (length (now turns) ≡ mostJobs) × LeftRunnable (leftBeside (now fates) (now waits) (now number) (now cycles) (now worth) (now critical) (now termination)) terms ⌝ }
+    ensures { λ r. ⌜
+        LeftRun (leftBeside (now (fates .entry)) (now (waits .entry)) (now (number .entry)) (now (cycles .entry)) (now (worth .entry)) (now (critical .entry)) (now (termination .entry))) terms (courseLeft (now (places .exit)) (now (fates .exit)) (r .totals) (r .turns))
+        × LeftNoted (leftBeside (now (fates .entry)) (now (waits .entry)) (now (number .entry)) (now (cycles .entry)) (now (worth .entry)) (now (critical .entry)) (now (termination .entry))) terms (r .turns) (now (order .entry)) (now (rooms .entry)) (now (order .exit)) (now (rooms .exit))
+        ⌝ }
+{
+    let jobs = terms.job_count;
+    let mut deadline = [0; MOST_JOBS];
+    deadlines(&mut deadline, termination, terms);
+    let mut over = [0; MOST_JOBS];
+    let mut under = [0; MOST_JOBS];
+    chain_ratios(
+        &mut over,
+        &mut under,
+        fates,
+        waits,
+        cycles,
+        worth,
+        &deadline,
+        jobs,
+    );
+    let turn_count = turn_order(turns, fates, number, &over, &under, jobs);
+    let totals = take_turns(
+        places,
+        fates,
+        &mut under,
+        worth,
+        turns,
+        turn_count,
+        &over,
+        waits,
+        critical,
+        cycles,
+        &deadline,
+        terms,
+        order,
+        rooms,
+    );
+    CourseTaken {
+        totals,
+        turns: turn_count,
+    }
+}
+
+// Steps 1 to 7: who is taken out, and the course of all turns of those that are left, noted as `take_turns` notes it. The columns
+// are lent one by one: by value they would be copied once more. That of the turns is lent for marks first.
 pub fn course_of<'a>(
     places: &mut [u64; MOST_JOBS],
     fates: &mut [u64; MOST_JOBS],
@@ -179,9 +239,8 @@ pub fn course_of<'a>(
         × CourseNoted holds «hold_count» (besides (now (number .entry)) (now (cycles .entry)) (now (worth .entry)) (now (critical .entry)) (now (termination .entry)) (now (request .entry))) terms (r .turns) (now (order .entry)) (now (rooms .entry)) (now (order .exit)) (now (rooms .exit))
         ⌝ }
 {
-    let jobs = terms.job_count;
     let mut holder_at = [NOBODY; RESOURCES];
-    holders(&mut holder_at, holds, hold_count, number, jobs);
+    holders(&mut holder_at, holds, hold_count, number, terms.job_count);
     let mut waits = [0; MOST_JOBS];
     let mut turns = [0; MOST_JOBS];
     take_out(
@@ -196,41 +255,20 @@ pub fn course_of<'a>(
         request,
         terms,
     );
-    let mut deadline = [0; MOST_JOBS];
-    deadlines(&mut deadline, termination, terms);
-    let mut over = [0; MOST_JOBS];
-    let mut under = [0; MOST_JOBS];
-    chain_ratios(
-        &mut over,
-        &mut under,
-        fates,
-        &waits,
-        cycles,
-        worth,
-        &deadline,
-        jobs,
-    );
-    let turn_count = turn_order(&mut turns, fates, number, &over, &under, jobs);
-    let totals = take_turns(
+    run_turns(
         places,
         fates,
-        &mut under,
-        worth,
-        &turns,
-        turn_count,
-        &over,
+        &mut turns,
         &waits,
-        critical,
+        number,
         cycles,
-        &deadline,
+        worth,
+        critical,
+        termination,
         terms,
         order,
         rooms,
-    );
-    CourseTaken {
-        totals,
-        turns: turn_count,
-    }
+    )
 }
 
 // Steps 8 and 9, once all turns are taken.

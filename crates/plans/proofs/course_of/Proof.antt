@@ -1,27 +1,16 @@
--- `plans::course_of` meets its contract: the steps one after the other. Assumes nothing.
-use mathlib.Core.List.{List}
-use mathlib.Core.Path.{refl, sym}
-use Prim.Native.Nat.{ℕ, _≤_}
-use native.Mathlib.Omega.{arith}
+-- `plans::course_of` meets its contract: steps 1 and 2, and then those behind them on what these leave. Assumes nothing.
+use mathlib.Core.Path.{_≡_, refl}
 use lib.ListN.{take}
-use Rattle.chains.specs.Stage.{Stage}
-use Rattle.columns.specs.Columns.{AllBelow, Columns, besides}
-use Rattle.plans.proofs.Running.{staged-by, steps-1-to-7, turns-noted, turns-of}
-use Rattle.plans.specs.Courses.{turnsBy}
-use borrow.Author.Needs.{needs}
+use Rattle.columns.specs.Columns.{Columns, ColumnsOf, TermsOf, besides}
+use Rattle.plans.proofs.Running.{left-by}
+use Rattle.plans.specs.Courses.{LeftColumns, leftBeside}
+use Rattle.plans.specs.Promises.{LeftOf}
+use Rattle.rules.specs.TableText.{Records}
+use Rattle.rules.specs.Valid.{Valid}
 use Rattle.plans.proofs.course_of.Statement.{statement}
 use Rattle.plans.proofs.course_of.Tie as tie
 
--- what stood when the ratios were told, when deadlines were, when jobs were taken out, when holders were known, and at the start
-abbrev ranked : tie.After-turn-order → tie.After-chain-ratios
-ranked c = c .before .before .before .before .before
-
-abbrev due : tie.After-chain-ratios → tie.After-deadlines
-due c = c .before .before .before .before .before .before .before
-
-abbrev staged : tie.After-deadlines → tie.After-take-out
-staged c = c .before .before
-
+-- what stood when holders were known, and at the start
 abbrev held : tie.After-take-out → tie.After-holders
 held c = c .before .before .before .before .before .before
 
@@ -32,6 +21,21 @@ abbrev columns : tie.Start → Columns
 columns c =
     besides (c .args .number .now) (c .args .cycles .now) (c .args .worth .now) (c .args .critical .now) (c .args .termination .now)
     (c .args .request .now)
+
+-- what steps 1 and 2 leave
+abbrev leftColumns : tie.After-take-out → LeftColumns
+leftColumns c =
+    let args = started (held c) .args in
+    leftBeside (c .take-out .last .0) (c .take-out .last .1 .0) (args .number .now) (args .cycles .now) (args .worth .now)
+    (args .critical .now) (args .termination .now)
+
+left-of : (c : tie.After-take-out) (t : Records) → Valid t → TermsOf t (started (held c) .args .terms)
+    → take (started (held c) .args .hold-count) (started (held c) .args .holds) ≡ t .holds → ColumnsOf (t .jobs) (columns (started (held c)))
+    → LeftOf t (leftColumns c) (started (held c) .args .terms)
+left-of c =
+    let start = started (held c) in
+    left-by (start .args .holds) (start .args .hold-count) (columns start) (start .args .terms) (c .take-out .last .0)
+    (c .take-out .last .1 .0) (held c .holders .ensures) (c .take-out .ensures .1)
 
 holders-requires : tie.Need-holders-requires
 holders-requires c κs = (refl, c .before .before .before .pre .1 .holdable)
@@ -50,109 +54,48 @@ take-out-requires c κs =
       },
     )
 
-deadlines-requires : tie.Need-deadlines-requires
-deadlines-requires c κs =
-    let pre = started (held (c .before)) .pre .1 in
-    (refl, pre .columns-small .termination, pre .terms-small)
-
--- what steps 1 and 2 leave of the table
-stage-of : (c : tie.After-take-out) → Stage (started (held c) .pre .1 .table) (c .take-out .last .0) (c .take-out .last .1 .0)
-stage-of c =
-    let start = started (held c) in
-    let of = start .pre .1 .of-table in
-    staged-by (start .args .holds) (start .args .hold-count) (columns start) (start .args .terms) (held c .holders .ensures)
-    (c .take-out .ensures .1) (start .pre .1 .table) (of .valid) (of .terms-of) (of .holds-of) (of .columns-of)
-
-chain-ratios-requires : tie.Need-chain-ratios-requires
-chain-ratios-requires c κs =
-    let left = staged (c .before .before .before .before .before .before) in
-    let pre = started (held left) .pre .1 in (
-      refl,
-      refl,
+run-turns-requires : tie.Need-run-turns-requires
+run-turns-requires c κs =
+    let left = c .before .before .before .before .before .before .before in
+    let pre = started (held left) .pre in
+    let of = pre .1 .of-table in (
+      record { places-whole = pre .0 .places-whole; fates-whole = left .take-out .ensures .1 .fates-whole },
+      left .take-out .ensures .0,
       record {
-        cycles-small = pre .columns-small .cycles;
-        worth-small = pre .columns-small .worth;
-        table = pre .table;
-        valid = pre .of-table .valid;
-        jobs = sym (pre .of-table .terms-of .job-count);
-        waits-of = stage-of left .waits-left;
-        cycles-of = pre .of-table .columns-of .cycles;
-      },
-    )
-
-slice-aggregate-turn-order : tie.Need-slice-aggregate-turn-order
-slice-aggregate-turn-order c = search needs
-
-turn-order-requires : tie.Need-turn-order-requires
-turn-order-requires c κs =
-    let told = c .before .before .before .before in (
-      staged (due told) .take-out .ensures .0,
-      record {
-        few-jobs = started (held (staged (due told))) .pre .1 .terms-small .job-count;
-        small = told .chain-ratios .ensures .small;
-      },
-    )
-
-below-most : (n m : ℕ) (xs : List ℕ) → n ≤ m → AllBelow n xs → AllBelow m xs
-below-most n m xs h below i l = omega (arith, below i l)
-
-take-turns-requires : tie.Need-take-turns-requires
-take-turns-requires c κs =
-    let ordered = c .before .before .before .before .before .before .before .before .before .before .before in
-    let told = ranked ordered in
-    let left = staged (due told) in
-    let start = started (held left) in
-    let pre = start .pre .1 in
-    let of = pre .of-table in
-    let in-order = ordered .turn-order .ensures in
-    let few-jobs = pre .terms-small .job-count in (
-      start .pre .0 .places-whole,
-      told .chain-ratios .ensures .under-whole,
-      pre .worth-whole,
-      record {
-        order-whole = in-order .whole;
-        fates-whole = left .take-out .ensures .1 .fates-whole;
-        few-turns = omega (arith, in-order .few, few-jobs);
-        below = below-most _ _ (take (ordered .turn-order .result) (ordered .turn-order .last .0)) few-jobs (in-order .below);
-        columns-small =
-            record {
-              critical-small = pre .columns-small .critical;
-              cycles-small = pre .columns-small .cycles;
-              deadline-small = λ p. omega (arith, due told .deadlines .ensures .at-most p);
-            };
-        terms-small = pre .terms-small;
-        table = pre .table;
-        of-table =
-            turns-of (start .args .holds) (start .args .hold-count) (columns start) (start .args .terms)
-            (turnsBy (ordered .turn-order .last .0) (ordered .turn-order .result)) (held left .holders .ensures)
-            (left .take-out .ensures .1) (due told .deadlines .ensures) (told .chain-ratios .ensures) in-order (pre .table)
-            (of .valid) (of .terms-of) (of .holds-of) (of .columns-of) .0;
+        runs-small = record { cycles-small = pre .1 .columns-small .cycles; termination-small = pre .1 .columns-small .termination };
+        worth-small = pre .1 .columns-small .worth;
+        critical-small = pre .1 .columns-small .critical;
+        worth-whole = pre .1 .worth-whole;
+        terms-small = pre .1 .terms-small;
+        table = pre .1 .table;
+        of-table = left-of left (pre .1 .table) (of .valid) (of .terms-of) (of .holds-of) (of .columns-of);
       },
     )
 
 same-length : tie.Need-same-length
-same-length c = c .before .before .before .before .take-turns .ensures .1 .order-whole
+same-length c = c .before .before .before .before .run-turns .ensures .1 .order-whole
 
 same-length-2 : tie.Need-same-length-2
-same-length-2 c = c .before .before .before .before .take-turns .ensures .1 .rooms-whole
+same-length-2 c = c .before .before .before .before .run-turns .ensures .1 .rooms-whole
 
 returns : tie.Need-returns
 returns c =
-    let taken = c .before .before .before .before in
-    let ordered = taken .before .before .before .before .before .before .before .before .before .before .before .before in
-    let told = ranked ordered in
-    let left = staged (due told) in
-    let start = started (held left) in
-    let args = start .args in
-    let turns = turnsBy (ordered .turn-order .last .0) (ordered .turn-order .result) in (
-      steps-1-to-7 (args .holds) (args .hold-count) (columns start) (args .terms) turns (held left .holders .ensures)
-          (left .take-out .ensures .1) (due told .deadlines .ensures) (told .chain-ratios .ensures) (ordered .turn-order .ensures)
-          _ (taken .take-turns .ensures .0),
-      turns-noted (args .holds) (args .hold-count) (columns start) (args .terms) turns (held left .holders .ensures)
-          (left .take-out .ensures .1) (due told .deadlines .ensures) (told .chain-ratios .ensures) (ordered .turn-order .ensures)
-          (args .order .now) (args .rooms .now) _ _
-          (omega (arith, ordered .turn-order .ensures .few, start .pre .1 .terms-small .job-count))
-          (taken .take-turns .ensures .1),
+    let ran = c .before .before .before .before in
+    let left = ran .before .before .before .before .before .before .before .before in
+    let run = ran .run-turns .ensures .0 in
+    let noted = ran .run-turns .ensures .1 in (
+      record {
+        whole = run .whole;
+        placed = run .placed;
+        totalled = run .totalled;
+        course = λ t valid of holds-of columns-of. run .course t (left-of left t valid of holds-of columns-of);
+      },
+      record {
+        few = noted .few;
+        order-whole = noted .order-whole;
+        rooms-whole = noted .rooms-whole;
+        noted = λ t valid of holds-of columns-of. noted .noted t (left-of left t valid of holds-of columns-of);
+      },
     )
 
 pub course-of-spec : {M : Type 1} → statement M
@@ -161,11 +104,7 @@ course-of-spec =
     (tie.spec
     holders-requires
     take-out-requires
-    deadlines-requires
-    chain-ratios-requires
-    slice-aggregate-turn-order
-    turn-order-requires
-    take-turns-requires
+    run-turns-requires
     same-length
     same-length-2
     returns)
