@@ -4,7 +4,7 @@ use mathlib.Core.List.{List}
 use mathlib.Core.Path.{◌≡◌, refl, sym, ap, ◌∙◌}
 use Prim.Native.Nat.{ℕ}
 use contract.Lifetimes.{Lfts}
-use denote.Ref.{Bor}
+use denote.Ref.{Bor, MutBor}
 use Rattle.boundary.proofs.cuddlelamb_allocate.Reads as allocate
 use Rattle.boundary.proofs.cuddlelamb_costs.Reads as costs
 use Rattle.boundary.proofs.cuddlelamb_list.Reads as list
@@ -99,21 +99,21 @@ pub costs_unique : (model : ℕ) (r s : CostsAnswer) → CostsTold model r → C
 costs_unique model r s p q = costs_known r s (p.answer ∙ sym q.answer)
 
 -- The contract of each call is its record.
-pub plan-says : (l : Lfts 2) (table : Table) (budget : ℕ) (order fates order' fates' : Bor (List ℕ)) (r : PlanAnswer)
+pub plan-says : (l : Lfts 2) (table : Table) (budget : ℕ) (order fates order' fates' : MutBor (List ℕ)) (r : PlanAnswer)
     → plan.Learnt l (table, (budget, (order, (fates, tt)))) r (table, (budget, (order', (fates', tt))))
     ≡ PlanTold (taken_with table budget) order.now fates.now r order'.now fates'.now
 plan-says l table budget order fates order' fates' r = refl
 
-pub rooms-says : (l : Lfts 2) (table : Table) (budget : ℕ) (turns rooms turns' rooms' : Bor (List ℕ)) (r : RoomsAnswer)
+pub rooms-says : (l : Lfts 2) (table : Table) (budget : ℕ) (turns rooms turns' rooms' : MutBor (List ℕ)) (r : RoomsAnswer)
     → telling.Learnt l (table, (budget, (turns, (rooms, tt)))) r (table, (budget, (turns', (rooms', tt))))
     ≡ RoomsTold (taken_with table budget) turns.now rooms.now r turns'.now rooms'.now
 rooms-says l table budget turns rooms turns' rooms' r = refl
 
-pub list_says : (l : Lfts 2) (text out out' : Bor (List ℕ)) (r : TextAnswer)
+pub list_says : (l : Lfts 2) (text : Bor (List ℕ)) (out out' : MutBor (List ℕ)) (r : TextAnswer)
     → list.Learnt l (text, (out, tt)) r (text, (out', tt)) ≡ ListTold text.now out.now r out'.now
 list_says l text out out' r = refl
 
-pub list_with_says : (l : Lfts 2) (text : Bor (List ℕ)) (budget : ℕ) (out out' : Bor (List ℕ)) (r : TextAnswer)
+pub list_with_says : (l : Lfts 2) (text : Bor (List ℕ)) (budget : ℕ) (out out' : MutBor (List ℕ)) (r : TextAnswer)
     → list-with.Learnt l (text, (budget, (out, tt))) r (text, (budget, (out', tt)))
     ≡ ListWithTold text.now budget out.now r out'.now
 list_with_says l text budget out out' r = refl
@@ -122,7 +122,7 @@ pub read_says : (l : Lfts 1) (text : Bor (List ℕ)) (r : TableAnswer)
     → read.Learnt l (text, tt) r (text, tt) ≡ ReadTold text.now r
 read_says l text r = refl
 
-pub write_says : (l : Lfts 1) (table : Table) (out out' : Bor (List ℕ)) (r : TextAnswer)
+pub write_says : (l : Lfts 1) (table : Table) (out out' : MutBor (List ℕ)) (r : TextAnswer)
     → write.Learnt l (table, (out, tt)) r (table, (out', tt)) ≡ WriteTold table out.now r out'.now
 write_says l table out out' r = refl
 

@@ -1,5 +1,7 @@
 // The offered calls for C and Rust: include/cuddlelamb.h says what each promises. An answer is told in numbers: 0 and 0
 // where nothing is refused, or else the refusal's number and line.
+#![tactic(auto)]
+
 ghost use Rattle.std.specs.Prelude.{◌≡◌};
 ghost use Rattle.boundary.specs.Numbers.{text_answer, told_of};
 ghost use Rattle.boundary.specs.Told.{AllocateTold, CostsTold, ListTold, ListWithTold, PlanTold, ReadTold, RoomsTold, WriteTold};
@@ -15,7 +17,7 @@ use writer::write;
 
 // A plan's job count, speed and energy.
 #[repr(C)]
-#[derive(Drop)]
+#[derive(Clone, Copy)]
 pub struct PlanAnswer {
     pub number: u64,
     pub line: u64,
@@ -26,7 +28,7 @@ pub struct PlanAnswer {
 
 // How many bytes were written.
 #[repr(C)]
-#[derive(Drop)]
+#[derive(Clone, Copy)]
 pub struct TextAnswer {
     pub number: u64,
     pub line: u64,
@@ -35,7 +37,7 @@ pub struct TextAnswer {
 
 // The table of a text.
 #[repr(C)]
-#[derive(Drop)]
+#[derive(Clone, Copy)]
 pub struct TableAnswer {
     pub number: u64,
     pub line: u64,
@@ -44,7 +46,7 @@ pub struct TableAnswer {
 
 // The cycles allocated.
 #[repr(C)]
-#[derive(Drop)]
+#[derive(Clone, Copy)]
 pub struct CyclesAnswer {
     pub number: u64,
     pub line: u64,
@@ -53,7 +55,7 @@ pub struct CyclesAnswer {
 
 // A cost model's seven costs.
 #[repr(C)]
-#[derive(Drop)]
+#[derive(Clone, Copy)]
 pub struct CostsAnswer {
     pub number: u64,
     pub line: u64,
@@ -62,7 +64,7 @@ pub struct CostsAnswer {
 
 // How many turns there were, and the room that is left at the end.
 #[repr(C)]
-#[derive(Drop)]
+#[derive(Clone, Copy)]
 pub struct RoomsAnswer {
     pub number: u64,
     pub line: u64,
@@ -71,7 +73,7 @@ pub struct RoomsAnswer {
 }
 
 // A verdict's number and line.
-#[derive(Drop)]
+#[derive(Clone, Copy)]
 struct Told {
     number: u64,
     line: u64,

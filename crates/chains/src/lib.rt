@@ -1,6 +1,8 @@
 // Steps 1 and 2 of "From jobs to a plan" on lent columns: who is late alone, who waits for whom, and who leaves a ring; and the
 // deadlines by which step 4 compares. A job is known by its place in the table, and whom it waits for stands as a place in a
 // column, `MOST_JOBS` for nobody.
+#![tactic(auto)]
+
 ghost use Rattle.std.specs.Prelude.{not, ◌||◌, ◌≡◌, ◌≤◌, ◌<◌, eqb, replicate};
 ghost use Rattle.chains.specs.Promises.{Comparable, Deadlines, Holdable, Holders};
 ghost use Rattle.chains.specs.Promises.{LeavesRing, PlaceOf, Rather, WaitsFor, Weighable};

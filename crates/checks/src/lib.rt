@@ -1,4 +1,6 @@
 // The check of a whole table: its records, one after the other in the order of their lines, and the counts.
+#![tactic(auto)]
+
 ghost use Rattle.std.specs.Prelude.{cond, ◌≡◌, ◌≤◌};
 ghost use Rattle.lines.specs.Step.{Noted, fault_in};
 ghost use Rattle.records.specs.Faults.{fault_says};
@@ -16,7 +18,7 @@ use text::Parsed;
 
 // What comes next of a table: a record, by its letter and its place; a refusal, where there is no F, or of the first record
 // beyond the places; or nothing.
-#[derive(Drop)]
+#[derive(Clone, Copy)]
 enum Next {
     Clock,
     Speed(usize),

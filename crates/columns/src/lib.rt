@@ -1,5 +1,7 @@
 // The jobs of a table stand in columns, one for each field: the steps of "From jobs to a plan" know a job by its place, and read
 // its fields there.
+#![tactic(auto)]
+
 ghost use Rattle.std.specs.Prelude.{◌≤◌};
 ghost use Rattle.columns.specs.LookUp.{StandsAt};
 ghost use Rattle.rules.specs.TableText.{most_jobs};
@@ -7,7 +9,7 @@ ghost use Rattle.rules.specs.TableText.{most_jobs};
 use rules::MOST_JOBS;
 
 // What every step reads beside the jobs: the T line, the top speed and its cost, and how many jobs there are.
-#[derive(Drop)]
+#[derive(Clone, Copy)]
 pub struct Terms {
     pub clock: u64,
     pub budget: u64,
@@ -17,7 +19,7 @@ pub struct Terms {
 }
 
 // The job of a number: its place in the table, at which each column holds a field of it, or that there is none.
-#[derive(Drop)]
+#[derive(Clone, Copy)]
 pub enum Found {
     At(usize),
     Nowhere,

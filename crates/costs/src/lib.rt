@@ -1,4 +1,6 @@
 // The supplied cost table: asked by model number, it answers the seven costs of document 01.
+#![tactic(auto)]
+
 ghost use Rattle.std.specs.Prelude.{◌≡◌};
 ghost use Rattle.rules.specs.Answers.{supplied_says};
 ghost use Rattle.rules.specs.Costs.{supplied_costs};

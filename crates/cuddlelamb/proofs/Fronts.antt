@@ -1,21 +1,23 @@
--- What was read is a front part of its buffer. Where a buffer has room for the lines of all rooms, and no listing is longer, nothing
--- that is asked for is refused, and the front of the buffer is the whole of it. A word of the command line is a budget where it is
--- a number. Assumes nothing.
-use mathlib.Core.Bool.{Bool, true, false}
-use mathlib.Core.List.{List, [], ◌∷◌, ◌++◌}
-use mathlib.Core.Option.{Option, none, some}
-use mathlib.Core.Path.{◌≡◌, refl, sym, ap, ◌∙◌}
-use Prim.Native.Nat.{ℕ, ◌≤◌}
-use native.Mathlib.Omega.{arith}
+-- What was read is a front part of its buffer, and of the input. Where a buffer has room for the lines of all rooms, and no listing
+-- is longer, nothing that is asked for is refused, and the front of the buffer is the whole of it. A word of the command line is a
+-- budget where it is a number. Assumes nothing.
+use Rattle.std.proofs.Common.{◌≡◌, ◌+◌, ◌<◌, ◌≤◌, ℕ, Bool, true, false, List, [], ◌∷◌, ◌++◌, length, take, drop, refl, sym, ap, subst, ◌∙◌, arith, eqb, ltb, ltb-true, ltb-false, append-nil, length-take-le, take_all, IfSome, OnOk, is_ok, Result, Ok, Err, None, Some}
+use Rattle.std.specs.Bool.{OnTrue}
+use mathlib.Core.Bool.{false≢true}
+use Rattle.std.proofs.Math.Option.{Option, none, some}
+use Rattle.std.proofs.Math.Seq.{take-append-add}
+use Rattle.std.proofs.lemmas.List.{take-append-le}
+use Rattle.std.proofs.KnownBytes.{Consumes-trans}
+use Rattle.std.specs.declared.option.Option as std
+use Rattle.std.specs.Io.KnownBytes.{Appends, Consumes}
 use borrow.Author.Tests.{le-leb}
-use lib.Dec.{eqb}
-use lib.ListN.{drop, length, length-append}
+use lib.ListN.{length-append}
 use lib.Seq.{take_at}
-use Rattle.cuddlelamb.specs.Program.{BudgetIn, FrontOf, ListedAs, asks, lines_asked}
+use Rattle.caller.proofs.Counting.{prefix_len_of_le}
+use Rattle.caller.specs.Promises.{IsPrefixLen}
+use Rattle.cuddlelamb.specs.Program.{BudgetIn, FrontOf, ListedAs, PrintedOf, Taken, asks, lines_asked}
 use Rattle.cuddlelamb.specs.declared.Asked.{Asked}
 use Rattle.cuddlelamb.specs.declared.Input.{Input}
-use Rattle.io.proofs.Counting.{prefix_len_of_le}
-use Rattle.io.specs.Counts.{IsPrefixLen}
 use Rattle.laws.proofs.Unique.{refusal_not_0}
 use Rattle.listing.proofs.LongestListing.{longest_listing, longest_with_budget}
 use Rattle.listing.specs.Listed.{wrote}
@@ -35,6 +37,52 @@ use Rattle.rules.specs.declared.Written.{Written}
 pub bytes_counted : (buffer : List ℕ) (input : Input) (count : ℕ) → input ≡ Input.Bytes count → FrontOf buffer input
     → IsPrefixLen count buffer
 bytes_counted buffer input count bytes_told front = rw bytes_told at front
+
+-- What a read puts behind the front that was read makes that front longer.
+module _ (front part behind : List ℕ) (at n : ℕ) (within : at ≤ length front) (few : n ≤ length part) where
+  longer : take (at + n) (take at front ++ (part ++ behind)) ≡ take at front ++ take n part
+  longer =
+      ap (λ k. take (k + n) (take at front ++ (part ++ behind))) (sym (length-take-le at front within))
+      ∙ take-append-add (take at front) (part ++ behind) n
+      ∙ ap (λ l. take at front ++ l) (take-append-le n part behind few)
+
+  pub read_on : (a b c : std.Option (List ℕ)) → Consumes a b (take at front) → Consumes b c (take n part)
+      → Consumes a c (take (at + n) (take at front ++ (part ++ behind)))
+  read_on a b c first second = subst (Consumes a c) (sym longer) (Consumes-trans a b c _ _ first second)
+
+-- The bytes that were read are as many of the input's first bytes as the buffer has room for, or all of it.
+module _ (buffer input behind : List ℕ) (count most : ℕ) (whole : length buffer ≡ most) (e : input ≡ take count buffer ++ behind)
+    (end : count < length buffer → behind ≡ []) where
+  first_bytes : take most input ≡ take count buffer
+  first_bytes = by (ltb count (length buffer)) refl
+    where
+      by : (b : Bool) → ltb count (length buffer) ≡ b → take most input ≡ take count buffer
+      by true less =
+          let below = ltb-true _ _ less in
+          ap (take most) (e ∙ ap (λ l. take count buffer ++ l) (end below) ∙ append-nil (take count buffer))
+          ∙ take_all most (take count buffer) (omega (arith, below, whole, length-take-le count buffer (omega (arith, below))))
+      by false not_less =
+          let all = take_all count buffer (ltb-false _ _ not_less) in
+          ap (take most) e ∙ take_at (take count buffer) behind most (ap length all ∙ whole)
+
+shown_of_input : (old new : std.Option (List ℕ)) (buffer : List ℕ) (count most : ℕ) → length buffer ≡ most
+    → Taken old new buffer (Input.Bytes count) → (P : List ℕ → Type 0) → P (take count buffer)
+    → IfSome old (λ input. P (take most input))
+shown_of_input None new buffer count most whole taken P p = tt
+shown_of_input (Some input) None buffer count most whole taken P p = absurd taken.0
+shown_of_input (Some input) (Some behind) buffer count most whole taken P p =
+    subst P (sym (first_bytes buffer input behind count most whole taken.0 taken.1)) p
+
+-- What is printed of them is what is asked for of the input.
+pub planned : {E : Type 0} (old new : std.Option (List ℕ)) (buffer : List ℕ) (count most : ℕ) → length buffer ≡ most
+    → Taken old new buffer (Input.Bytes count) → (rooms : Bool) (asked : Asked) (before after : std.Option (List ℕ))
+    → (printed : Result (Unit {0}) E) → OnOk printed (Appends before after (lines_asked (take count buffer) rooms asked))
+    → (r : Bool) → r ≡ is_ok printed
+    → OnTrue r (PrintedOf most rooms asked old before after)
+planned old new buffer count most whole taken rooms asked before after (Ok u) ok true e =
+    shown_of_input old new buffer count most whole taken (λ text. Appends before after (lines_asked text rooms asked)) ok
+planned old new buffer count most whole taken rooms asked before after (Err why) ok true e = absurd (false≢true (sym e))
+planned old new buffer count most whole taken rooms asked before after printed ok false e = tt
 
 module _ (lines out : List ℕ) (room : length lines ≤ length out) where
   always_written : written lines out ≡ record { answer = good (length lines ∷ []); out = lines ++ drop (length lines) out }

@@ -9,23 +9,30 @@
 // - A read that fails prints nothing at all: a plan of half a table must not pass for the plan of the table. A whole
 //   listing is never empty, and where there is no turn to tell of that is said on standard error, so that an empty output of
 //   which nothing is said is always a failure.
-// - A write that fails, as to a closed or a full output, is not tried again. What was printed before it stands.
-// The exit status is 0 all the same: a program in this language has no other. A pipe that nobody reads any more ends the
-// process by its signal, as the system has it.
-ghost use Rattle.std.specs.Prelude.{◌≡◌};
-ghost use Rattle.cuddlelamb.specs.Program.{BudgetIn, FrontOf, ListedAs, lines_asked};
+// - A write that fails, as to a closed or a full output or to a pipe that nobody reads any more, is not tried again. What was
+//   printed before it stands.
+// The exit status is 0 all the same.
+#![tactic(auto)]
+
+ghost use Rattle.std.specs.Prelude.{◌≡◌, OnOk};
+ghost use Rattle.std.specs.Bool.{OnTrue};
+ghost use Rattle.std.specs.Io.KnownBytes.{Appends};
+ghost use Rattle.cuddlelamb.specs.Program.{BudgetIn, FrontOf, ListedAs, PrintedOf, Taken, lines_asked};
 ghost use Rattle.cuddlelamb.specs.declared.Asked.{Asked};
 ghost use Rattle.listing.specs.Listed.{wrote};
 ghost use Rattle.rules.specs.Refusals.{written};
 
-use libc::{STDERR_FILENO, STDIN_FILENO, STDOUT_FILENO};
+use caller::fail;
 use records::budget_in_range;
 use rules::{Field, Verdict, Written};
+use std::env::{Env, FillError};
+use std::io;
+use std::io::{Read, Write};
 use text::Cursor;
 
 const MOST_READ: usize = 4096;
 
-// The bytes of the longest lines of rooms (`longest-rooms` of roomlines/proofs/LongestRooms). No listing is as long.
+// The bytes of the longest lines of rooms (`longest_rooms` of roomlines/proofs/LongestRooms). No listing is as long.
 const MOST_PRINTED: usize = 1719;
 
 // Room for a word of the command line. No number, and neither option, is as long.
@@ -39,7 +46,7 @@ const BUDGET: [u8; OPTION_BYTES] = [b'-', b'-', b'b', b'u', b'd', b'g', b'e', b'
 const ROOMS: [u8; OPTION_BYTES] = [b'-', b'-', b'r', b'o', b'o', b'm', b's', 0, 0];
 
 // The budget that is asked for: the table's own, another, or none that can be understood.
-#[derive(Drop)]
+#[derive(Clone, Copy)]
 enum Asked {
     Own,
     Beside(u64),
@@ -72,28 +79,37 @@ fn is_option(buffer: &[u8; WORD], wanted: [u8; OPTION_BYTES]) -> bool {
     true
 }
 
+// How many words the command line has, the program's name among them.
+fn count_words(words: &impl Env) -> usize {
+    for place in 0..usize::MAX {
+        let mut front = [0u8; 1];
+        if let Err(FillError::NotPresent) = words.arg(place, &mut front) {
+            return place;
+        }
+    }
+    usize::MAX
+}
+
 // Whether the word at this place of the command line is the option that is wanted.
-fn option_at(place: usize, wanted: [u8; OPTION_BYTES]) -> bool {
+fn option_at(words: &impl Env, place: usize, wanted: [u8; OPTION_BYTES]) -> bool {
     let mut word = [0u8; WORD];
-    os::arg(place, &mut word);
-    if os::errno() != 0 {
+    if words.arg(place, &mut word).is_err() {
         return false;
     }
     is_option(&word, wanted)
 }
 
 // What the words of the command line ask for, from this place on.
-fn budget_asked(first: usize) -> Asked {
-    let count = os::arg_count();
+fn budget_asked(words: &impl Env, first: usize) -> Asked {
+    let count = count_words(words);
     if count <= first {
         return Asked::Own;
     }
-    if count - first != 2 || !option_at(first, BUDGET) {
+    if count - first != 2 || !option_at(words, first, BUDGET) {
         return Asked::Unknown;
     }
     let mut word = [0u8; WORD];
-    os::arg(first + 1, &mut word);
-    if os::errno() != 0 {
+    if words.arg(first + 1, &mut word).is_err() {
         return Asked::Unknown;
     }
     budget_in(&word)
@@ -107,25 +123,24 @@ fn budget_place(rooms: bool) -> usize {
     1
 }
 
-// How many bytes the input had, or that a read failed.
-#[derive(Drop)]
+// How many bytes the input had, or why a read failed.
+#[derive(Clone, Copy)]
 enum Input {
     Bytes(usize),
-    Failed,
+    Failed(io::Error),
 }
 
 // Reads on after a short read, until the buffer is full or the input ends.
-fn read_input(buffer: &mut [u8]) -> Input
-    ensures { FrontOf buffer.new result }
+fn read_input<R: Read>(from: &mut R, buffer: &mut [u8]) -> Input
+    ensures front { FrontOf buffer.new result }
+    ensures taken { Taken (R.remaining from.old) (R.remaining from.new) buffer.new result }
 {
     let mut count = 0;
     while count < buffer.len() {
-        let rest = &mut buffer[count..];
-        let got = libc::read(STDIN_FILENO, rest);
-        if got < 0 {
-            return Input::Failed;
-        }
-        let more = io::count(got, rest);
+        let more = match from.read(&mut buffer[count..]) {
+            Ok(more) => more,
+            Err(why) => return Input::Failed(why),
+        };
         if more == 0 {
             return Input::Bytes(count);
         }
@@ -155,17 +170,14 @@ fn list_beside(text: &[u8], rooms: bool, budget: u64, out: &mut [u8]) -> Written
 }
 
 // Says that the budget beside is the one that is refused, where it is, and not the text.
-fn tell_budget(text: &[u8], budget: u64) {
+fn tell_budget(text: &[u8], budget: u64, say: &mut impl Write) {
     if budget_in_range(budget) {
         return;
     }
     let reading = reader::read(text);
     let verdict = reading.verdict;
     if let Verdict::Done = verdict {
-        io::write_all(
-            STDERR_FILENO,
-            b"the budget beside the table is above 1000000000000000\n",
-        );
+        let _ = say.write_all(b"the budget beside the table is above 1000000000000000\n");
     }
 }
 
@@ -192,35 +204,59 @@ fn list_whole(text: &[u8], rooms: bool, asked: Asked, buffer: &mut [u8; MOST_PRI
 }
 
 // Only the rooms of a table in which no job has a turn have no line.
-fn print_asked(text: &[u8], rooms: bool, asked: Asked) {
+fn print_asked<W: Write>(
+    text: &[u8],
+    rooms: bool,
+    asked: Asked,
+    out: &mut W,
+    say: &mut impl Write,
+) -> io::Result<()>
+    ensures { OnOk result (Appends (W.contents out.old) (W.contents out.new) (lines_asked text.now rooms asked)) }
+{
     let mut lines = [0u8; MOST_PRINTED];
     let length = list_whole(text, rooms, asked, &mut lines);
     if length == 0 {
-        io::write_all(STDERR_FILENO, b"no job has a turn\n");
-        return;
+        let _ = say.write_all(b"no job has a turn\n");
+        return Ok(());
     }
-    if !io::write_all(STDOUT_FILENO, &lines[..length]) {
-        os::fail(b"standard output");
-    }
+    out.write_all(&lines[..length])
 }
 
-fn main() {
-    let rooms = option_at(1, ROOMS);
-    let asked = budget_asked(budget_place(rooms));
-    if let Asked::Unknown = asked {
-        io::write_all(
-            STDERR_FILENO,
-            b"usage: cuddlelamb [--rooms] [--budget N] < TABLE\n",
-        );
-        return;
-    }
+// Reads a table and prints the lines that are asked for, and whether it did. What goes wrong is said.
+fn plan_input<R: Read, W: Write>(
+    rooms: bool,
+    asked: Asked,
+    from: &mut R,
+    out: &mut W,
+    say: &mut impl Write,
+) -> bool
+    ensures { OnTrue result (PrintedOf MOST_READ rooms asked (R.remaining from.old) (W.contents out.old) (W.contents out.new)) }
+{
     let mut text = [0u8; MOST_READ];
-    let Input::Bytes(read) = read_input(&mut text) else {
-        os::fail(b"standard input");
-        return;
+    let read = match read_input(from, &mut text) {
+        Input::Bytes(read) => read,
+        Input::Failed(why) => {
+            let _ = fail(say, "standard input", why);
+            return false;
+        }
     };
-    print_asked(&text[..read], rooms, asked);
-    if let Asked::Beside(budget) = asked {
-        tell_budget(&text[..read], budget);
+    let printed = print_asked(&text[..read], rooms, asked, out, say);
+    if let Err(why) = printed {
+        let _ = fail(say, "standard output", why);
     }
+    if let Asked::Beside(budget) = asked {
+        tell_budget(&text[..read], budget, say);
+    }
+    printed.is_ok()
+}
+
+fn main(rt: HostRuntime) {
+    let rooms = option_at(&rt, 1, ROOMS);
+    let asked = budget_asked(&rt, budget_place(rooms));
+    let mut say = rt.stderr();
+    if let Asked::Unknown = asked {
+        let _ = say.write_all(b"usage: cuddlelamb [--rooms] [--budget N] < TABLE\n");
+        return;
+    }
+    plan_input(rooms, asked, &mut rt.stdin(), &mut rt.stdout(), &mut say);
 }

@@ -1,4 +1,6 @@
 // The cycles to allocate to a job, from the mean and the variance of its cycles and the assurance that they are enough.
+#![tactic(auto)]
+
 ghost use Rattle.std.specs.Prelude.{true, [], ◌∷◌, ◌≡◌, ◌≤◌};
 ghost use Rattle.rules.specs.Answers.{allocated_says, good};
 ghost use Rattle.rules.specs.Cycles.{allocation, asked_in_range, enough};

@@ -11,7 +11,7 @@ use mathlib.Core.Option.{some}
 use mathlib.Core.Path.{◌≡◌}
 use Prim.Native.Nat.{ℕ, suc, ◌≤◌, ◌<◌}
 use contract.Lifetimes.{Lfts}
-use denote.Ref.{Bor}
+use denote.Ref.{Bor, MutBor}
 use lib.ListN.{length, take}
 use Rattle.boundary.proofs.Unique.{allocate_unique, costs_unique, list_unique, list_with_unique, plan_unique, read_unique, rooms_unique, write_unique}
 use Rattle.boundary.specs.Told as boundary
@@ -89,7 +89,7 @@ use Rattle.writer.proofs.Unique as writer
 -- answers, there and nowhere else; the values that it then hands back; and what the lent buffers, or the table handed back, then
 -- hold.
 
-pub refused_by_plan_into : (l : Lfts 2) (table : Table) (budget : ℕ) (order fates order' fates' : Bor (List ℕ)) (d : Decision)
+pub refused_by_plan_into : (l : Lfts 2) (table : Table) (budget : ℕ) (order fates order' fates' : MutBor (List ℕ)) (d : Decision)
     → planner.Promised l table budget order fates d order' fates'
     → Refuses (PlanRefused table budget order.now fates.now) (decision_says d) (0 ∷ 0 ∷ 0 ∷ [])
     ((order'.now ≡ order.now) × (fates'.now ≡ fates.now))
@@ -105,22 +105,22 @@ pub refused_by_hand_back : (order : List ℕ) (begin : ℕ × ℕ) (why : Refusa
     → HandedBack order begin (Decision.Refused why line) part at → part ≡ []
 refused_by_hand_back = refused_hands_back_nothing
 
-pub refused_by_rooms : (l : Lfts 2) (table : Table) (budget : ℕ) (turns rooms turns' rooms' : Bor (List ℕ)) (r : Panel)
+pub refused_by_rooms : (l : Lfts 2) (table : Table) (budget : ℕ) (turns rooms turns' rooms' : MutBor (List ℕ)) (r : Panel)
     → planner.PromisedRooms l table budget turns rooms r turns' rooms'
     → Refuses (PlanRefused table budget turns.now rooms.now) (panel_says r) (0 ∷ 0 ∷ [])
     ((turns'.now ≡ turns.now) × (rooms'.now ≡ rooms.now))
 refused_by_rooms = rooms_refuses
 
-pub refused_by_list : (l : Lfts 2) (text out after : Bor (List ℕ)) (w : Written) → listing.Promised l text out w after
+pub refused_by_list : (l : Lfts 2) (text : Bor (List ℕ)) (out after : MutBor (List ℕ)) (w : Written) → listing.Promised l text out w after
     → Refuses (ListRefused (listing_of text.now) out.now) (written_says w) (0 ∷ []) (after.now ≡ out.now)
 refused_by_list = list_refuses
 
-pub refused_by_list_with_budget : (l : Lfts 2) (text : Bor (List ℕ)) (budget : ℕ) (out after : Bor (List ℕ)) (w : Written)
+pub refused_by_list_with_budget : (l : Lfts 2) (text : Bor (List ℕ)) (budget : ℕ) (out after : MutBor (List ℕ)) (w : Written)
     → listing.PromisedWith l text budget out w after
     → Refuses (ListRefused (listed_with text.now budget) out.now) (written_says w) (0 ∷ []) (after.now ≡ out.now)
 refused_by_list_with_budget = list_with_refuses
 
-pub refused_by_write : (l : Lfts 1) (t : Table) (out after : Bor (List ℕ)) (w : Written) → writer.Promised l t out w after
+pub refused_by_write : (l : Lfts 1) (t : Table) (out after : MutBor (List ℕ)) (w : Written) → writer.Promised l t out w after
     → Refuses (WriteRefused t out.now) (written_says w) (0 ∷ []) (after.now ≡ out.now)
 refused_by_write = write_refuses
 
@@ -199,7 +199,7 @@ refused_by_cuddlelamb_costs = cuddlelamb_costs_refuses
 -- DEMAND 2. "Plan, fates, speed and energy are those that the rules of document 01 give, no others." A table that the check takes
 -- is planned with the budget beside it.
 
-pub plan_into_by_the_rules : (l : Lfts 2) (table : Table) (budget : ℕ) (order fates order' fates' : Bor (List ℕ)) (d : Decision)
+pub plan_into_by_the_rules : (l : Lfts 2) (table : Table) (budget : ℕ) (order fates order' fates' : MutBor (List ℕ)) (d : Decision)
     (t : Records) → planner.Promised l table budget order fates d order' fates' → check table ≡ taken t → is_budget budget ≡ true
     → HasRoom order.now fates.now
     → PlannedBy (with_budget t budget) order.now fates.now (decision_says d) order'.now fates'.now
@@ -211,30 +211,30 @@ pub plan_by_the_rules : (table : Table) (budget : ℕ) (order fates : List ℕ) 
 plan_by_the_rules = plan_gives
 
 -- `plan_into` and then `hand_back` of the buffer that it left: the part, and behind it every place as `plan_into` left it
-pub every_place_by_the_rules : (l : Lfts 2) (table : Table) (budget : ℕ) (order fates order' fates' : Bor (List ℕ)) (d : Decision)
+pub every_place_by_the_rules : (l : Lfts 2) (table : Table) (budget : ℕ) (order fates order' fates' : MutBor (List ℕ)) (d : Decision)
     (begin at : ℕ × ℕ) (part : List ℕ) → planner.Promised l table budget order fates d order' fates'
     → HandedBack order'.now begin d part at
     → Together (taken_with table budget) order.now fates.now begin order'.now part at
 every_place_by_the_rules = plan_into_then_hand_back
 
 -- the panel's call (document 02, A2): "It must equal the answer from all the entries", after each turn and at the end
-pub rooms_by_the_rules : (l : Lfts 2) (table : Table) (budget : ℕ) (turns rooms turns' rooms' : Bor (List ℕ)) (r : Panel)
+pub rooms_by_the_rules : (l : Lfts 2) (table : Table) (budget : ℕ) (turns rooms turns' rooms' : MutBor (List ℕ)) (r : Panel)
     (t : Records) → planner.PromisedRooms l table budget turns rooms r turns' rooms' → check table ≡ taken t
     → is_budget budget ≡ true → HasRoom turns.now rooms.now
     → RoomsBy (with_budget t budget) turns.now rooms.now (panel_says r) turns'.now rooms'.now
 rooms_by_the_rules = rooms_gives
 
-pub list_by_the_rules : (l : Lfts 2) (text out after : Bor (List ℕ)) (w : Written) → listing.Promised l text out w after
+pub list_by_the_rules : (l : Lfts 2) (text : Bor (List ℕ)) (out after : MutBor (List ℕ)) (w : Written) → listing.Promised l text out w after
     → length (listing_of text.now) ≤ length out.now
     → AtFront (listing_of text.now) out.now (written_says w) after.now
 list_by_the_rules = list_gives
 
-pub list_with_budget_by_the_rules : (l : Lfts 2) (text : Bor (List ℕ)) (budget : ℕ) (out after : Bor (List ℕ)) (w : Written)
+pub list_with_budget_by_the_rules : (l : Lfts 2) (text : Bor (List ℕ)) (budget : ℕ) (out after : MutBor (List ℕ)) (w : Written)
     → listing.PromisedWith l text budget out w after → length (listed_with text.now budget) ≤ length out.now
     → AtFront (listed_with text.now budget) out.now (written_says w) after.now
 list_with_budget_by_the_rules = list_with_gives
 
-pub valid_table_is_written : (l : Lfts 1) (t : Table) (out after : Bor (List ℕ)) (w : Written) → writer.Promised l t out w after
+pub valid_table_is_written : (l : Lfts 1) (t : Table) (out after : MutBor (List ℕ)) (w : Written) → writer.Promised l t out w after
     → WithinPlaces t → Valid (records_of t) → length (text_of (records_of t)) ≤ length out.now
     → AtFront (text_of (records_of t)) out.now (written_says w) after.now
 valid_table_is_written = write_gives
@@ -352,11 +352,11 @@ cuddlelamb_costs_by_the_rules model r promise = promise.answer
 -- table."
 
 pub read_and_written_again : (l l' : Lfts 1) (text : Bor (List ℕ)) (r : Reading) → reader.Promised l text r
-    → r.verdict ≡ Verdict.Done → (out after : Bor (List ℕ)) (w : Written) → writer.Promised l' r.table out w after
+    → r.verdict ≡ Verdict.Done → (out after : MutBor (List ℕ)) (w : Written) → writer.Promised l' r.table out w after
     → length text.now ≤ length out.now → SameText text.now out.now after.now w
 read_and_written_again = text_again
 
-pub written_and_read_again : (l l' : Lfts 1) (t : Table) (out after : Bor (List ℕ)) (n : ℕ)
+pub written_and_read_again : (l l' : Lfts 1) (t : Table) (out after : MutBor (List ℕ)) (n : ℕ)
     → writer.Promised l' t out (Written.Length n) after → (text : Bor (List ℕ)) → text.now ≡ take n after.now
     → (r : Reading) → reader.Promised l text r → SameTable t r
 written_and_read_again = table_again
@@ -367,7 +367,7 @@ written_and_read_again = table_again
 -- a refused one, of which the two tell the refusal that reading gives.
 
 pub read_then_plan_into_as_the_one : (l : Lfts 1) (text : Bor (List ℕ)) (r : Reading) → reader.Promised l text r
-    → r.verdict ≡ Verdict.Done → (l' : Lfts 2) (order fates order' fates' : Bor (List ℕ)) (d : Decision)
+    → r.verdict ≡ Verdict.Done → (l' : Lfts 2) (order fates order' fates' : MutBor (List ℕ)) (d : Decision)
     → planner.Promised l' r.table r.table.budget order fates d order' fates'
     → LeavesAsTheOne text.now order.now fates.now (decision_says d) order'.now fates'.now
 read_then_plan_into_as_the_one = plan_into_as_the_one
@@ -406,7 +406,7 @@ cuddlelamb_refused_reading_as_the_one = cuddlelamb_refused_as_the_one
 -- the budget beside. The listing is that with the text's own budget beside it, and of a refused text that with any.
 
 pub budget_beside_is_planned_with : (table : Table) (budget : ℕ) → is_budget table.budget ≡ true → is_budget budget ≡ true
-    → (l l* : Lfts 2) (order fates a b a' b' : Bor (List ℕ)) (d e : Decision) → planner.Promised l table budget order fates d a b
+    → (l l* : Lfts 2) (order fates a b a' b' : MutBor (List ℕ)) (d e : Decision) → planner.Promised l table budget order fates d a b
     → planner.Promised l* (table_with_budget table budget) budget order fates e a' b'
     → (d ≡ e) × (a.now ≡ a'.now) × (b.now ≡ b'.now)
 budget_beside_is_planned_with = same_as_its_own
@@ -425,7 +425,7 @@ pub budget_beside_is_planned_with_by_cuddlelamb_plan : (table : Table) (budget :
 budget_beside_is_planned_with_by_cuddlelamb_plan = told_as_its_own
 
 pub budget_beside_is_told_with : (table : Table) (budget : ℕ) → is_budget table.budget ≡ true → is_budget budget ≡ true
-    → (l l* : Lfts 2) (turns rooms a b a' b' : Bor (List ℕ)) (r s : Panel) → planner.PromisedRooms l table budget turns rooms r a b
+    → (l l* : Lfts 2) (turns rooms a b a' b' : MutBor (List ℕ)) (r s : Panel) → planner.PromisedRooms l table budget turns rooms r a b
     → planner.PromisedRooms l* (table_with_budget table budget) budget turns rooms s a' b'
     → (r ≡ s) × (a.now ≡ a'.now) × (b.now ≡ b'.now)
 budget_beside_is_told_with = rooms_as_its_own
@@ -436,16 +436,16 @@ pub budget_beside_is_told_with_by_cuddlelamb_rooms : (table : Table) (budget : �
     → boundary.RoomsTold (taken_with (table_with_budget table budget) budget) turns rooms s a' b' → (r ≡ s) × (a ≡ a') × (b ≡ b')
 budget_beside_is_told_with_by_cuddlelamb_rooms = cuddlelamb_rooms_as_its_own
 
-pub budget_beside_is_listed_with : (l l* : Lfts 2) (text text* out a b : Bor (List ℕ)) (w v : Written) (t : Records) (budget : ℕ)
+pub budget_beside_is_listed_with : (l l* : Lfts 2) (text text* : Bor (List ℕ)) (out a b : MutBor (List ℕ)) (w v : Written) (t : Records) (budget : ℕ)
     → read text.now ≡ taken t → is_budget budget ≡ true → text*.now ≡ text_of (with_budget t budget)
     → listing.Promised l text* out w a → listing.PromisedWith l* text budget out v b → (w ≡ v) × (a.now ≡ b.now)
 budget_beside_is_listed_with = list_with_as_its_own
 
-pub list_is_at_the_own_budget : (l l* : Lfts 2) (text out a b : Bor (List ℕ)) (w v : Written) → listing.Promised l text out w a
+pub list_is_at_the_own_budget : (l l* : Lfts 2) (text : Bor (List ℕ)) (out a b : MutBor (List ℕ)) (w v : Written) → listing.Promised l text out w a
     → (t : Records) → read text.now ≡ taken t → listing.PromisedWith l* text t.budget out v b → (w ≡ v) × (a.now ≡ b.now)
 list_is_at_the_own_budget = list_at_own_budget
 
-pub refused_text_is_listed_alike : (l l* : Lfts 2) (text out a b : Bor (List ℕ)) (w v : Written)
+pub refused_text_is_listed_alike : (l l* : Lfts 2) (text : Bor (List ℕ)) (out a b : MutBor (List ℕ)) (w v : Written)
     → listing.Promised l text out w a → (why : Refusal) (line : ℕ) → read text.now ≡ refused_at why line → (budget : ℕ)
     → listing.PromisedWith l* text budget out v b → (w ≡ v) × (a.now ≡ b.now)
 refused_text_is_listed_alike = list_refused_at_any_budget
@@ -465,11 +465,11 @@ pub one_answer_of_read : (l : Lfts 1) (text : Bor (List ℕ)) (r s : Reading) �
     → reader.Promised l text s → r ≡ s
 one_answer_of_read = reader.unique
 
-pub one_answer_of_write : (l : Lfts 1) (t : Table) (out a b : Bor (List ℕ)) (r s : Written) → writer.Promised l t out r a
+pub one_answer_of_write : (l : Lfts 1) (t : Table) (out a b : MutBor (List ℕ)) (r s : Written) → writer.Promised l t out r a
     → writer.Promised l t out s b → (r ≡ s) × (a.now ≡ b.now)
 one_answer_of_write = writer.unique
 
-pub one_answer_of_plan_into : (l : Lfts 2) (table : Table) (budget : ℕ) (order fates a b a' b' : Bor (List ℕ)) (r s : Decision)
+pub one_answer_of_plan_into : (l : Lfts 2) (table : Table) (budget : ℕ) (order fates a b a' b' : MutBor (List ℕ)) (r s : Decision)
     → planner.Promised l table budget order fates r a b → planner.Promised l table budget order fates s a' b'
     → (r ≡ s) × (a.now ≡ a'.now) × (b.now ≡ b'.now)
 one_answer_of_plan_into = planner.unique_into
@@ -483,16 +483,16 @@ pub one_answer_of_hand_back : (order : List ℕ) (begin : ℕ × ℕ) (d : Decis
     → HandedBack order begin d part at → HandedBack order begin d part' at' → (part ≡ part') × (at ≡ at')
 one_answer_of_hand_back = hand_back_unique
 
-pub one_answer_of_rooms : (l : Lfts 2) (table : Table) (budget : ℕ) (turns rooms a b a' b' : Bor (List ℕ)) (r s : Panel)
+pub one_answer_of_rooms : (l : Lfts 2) (table : Table) (budget : ℕ) (turns rooms a b a' b' : MutBor (List ℕ)) (r s : Panel)
     → planner.PromisedRooms l table budget turns rooms r a b → planner.PromisedRooms l table budget turns rooms s a' b'
     → (r ≡ s) × (a.now ≡ a'.now) × (b.now ≡ b'.now)
 one_answer_of_rooms = planner.unique_rooms
 
-pub one_answer_of_list : (l : Lfts 2) (text out a b : Bor (List ℕ)) (r s : Written) → listing.Promised l text out r a
+pub one_answer_of_list : (l : Lfts 2) (text : Bor (List ℕ)) (out a b : MutBor (List ℕ)) (r s : Written) → listing.Promised l text out r a
     → listing.Promised l text out s b → (r ≡ s) × (a.now ≡ b.now)
 one_answer_of_list = listing.unique
 
-pub one_answer_of_list_with_budget : (l : Lfts 2) (text : Bor (List ℕ)) (budget : ℕ) (out a b : Bor (List ℕ)) (r s : Written)
+pub one_answer_of_list_with_budget : (l : Lfts 2) (text : Bor (List ℕ)) (budget : ℕ) (out a b : MutBor (List ℕ)) (r s : Written)
     → listing.PromisedWith l text budget out r a → listing.PromisedWith l text budget out s b → (r ≡ s) × (a.now ≡ b.now)
 one_answer_of_list_with_budget = listing.unique_with_budget
 
@@ -565,7 +565,7 @@ one_answer_of_cuddlelamb_costs = costs_unique
 
 pub unplanned_jobs_do_not_matter : (set : ℕ → Bool) (table table* : Table) (budget : ℕ) (a b : Records)
     → BothAgree set (check table) (check table*) a b → is_budget budget ≡ true → (l l* : Lfts 2)
-    (order order* fates fates* order' order*' fates' fates*' : Bor (List ℕ)) (d e : Decision)
+    (order order* fates fates* order' order*' fates' fates*' : MutBor (List ℕ)) (d e : Decision)
     → planner.Promised l table budget order fates d order' fates' → planner.Promised l* table* budget order* fates* e order*' fates*'
     → HasRoom order.now fates.now → HasRoom order*.now fates*.now
     → NoneInFront set (front_of (decision_says d) order'.now) → NoneInFront set (front_of (decision_says e) order*'.now)
@@ -595,7 +595,7 @@ unplanned_jobs_do_not_matter_to_cuddlelamb_plan = unplanned_do_not_matter_to_cud
 pub unplanned_jobs_do_not_matter_to_rooms : (set : ℕ → Bool) (table table* : Table) (budget : ℕ) (a b : Records)
     → BothAgree set (check table) (check table*) a b → is_budget budget ≡ true
     → NonePlanned set (with_budget a budget) → NonePlanned set (with_budget b budget) → (l l* : Lfts 2)
-    (turns rooms turns* rooms* turns' rooms' turns*' rooms*' : Bor (List ℕ)) (r s : Panel)
+    (turns rooms turns* rooms* turns' rooms' turns*' rooms*' : MutBor (List ℕ)) (r s : Panel)
     → planner.PromisedRooms l table budget turns rooms r turns' rooms'
     → planner.PromisedRooms l* table* budget turns* rooms* s turns*' rooms*'
     → HasRoom turns.now rooms.now → HasRoom turns*.now rooms*.now
@@ -616,7 +616,7 @@ unplanned_jobs_do_not_matter_to_cuddlelamb_rooms = unplanned_do_not_matter_to_cu
 -- The listings, at the fronts of their buffers: the P line and the O lines are the same bytes, and so are the X lines of the jobs
 -- outside. Without a budget beside them the texts agree in their own.
 
-pub unplanned_jobs_do_not_matter_to_list : (set : ℕ → Bool) (l l* : Lfts 2) (text text* out out* after after* : Bor (List ℕ))
+pub unplanned_jobs_do_not_matter_to_list : (set : ℕ → Bool) (l l* : Lfts 2) (text text* : Bor (List ℕ)) (out out* after after* : MutBor (List ℕ))
     (w v : Written) (a b : Records) → BothAgree set (read text.now) (read text*.now) a b → a.budget ≡ b.budget
     → listing.Promised l text out w after → listing.Promised l* text* out* v after* → NonePlanned set a → NonePlanned set b
     → length (listing_of text.now) ≤ length out.now → length (listing_of text*.now) ≤ length out*.now
@@ -624,7 +624,7 @@ pub unplanned_jobs_do_not_matter_to_list : (set : ℕ → Bool) (l l* : Lfts 2) 
 unplanned_jobs_do_not_matter_to_list = unplanned_do_not_matter_to_list
 
 pub unplanned_jobs_do_not_matter_to_list_with_budget : (set : ℕ → Bool) (l l* : Lfts 2)
-    (text text* out out* after after* : Bor (List ℕ)) (w v : Written) (a b : Records)
+    (text text* : Bor (List ℕ)) (out out* after after* : MutBor (List ℕ)) (w v : Written) (a b : Records)
     → BothAgree set (read text.now) (read text*.now) a b → (budget : ℕ) → is_budget budget ≡ true
     → listing.PromisedWith l text budget out w after → listing.PromisedWith l* text* budget out* v after*
     → NonePlanned set (with_budget a budget) → NonePlanned set (with_budget b budget)

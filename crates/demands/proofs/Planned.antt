@@ -6,7 +6,7 @@ use mathlib.Core.Path.{◌≡◌, refl, ap, ◌∙◌}
 use Prim.Native.Nat.{ℕ, ◌≤◌}
 use borrow.Author.Tests.{le-leb}
 use contract.Lifetimes.{Lfts}
-use denote.Ref.{Bor}
+use denote.Ref.{Bor, MutBor}
 use lib.ListN.{length, length-map, take}
 use lib.Seq.{take_at}
 use Rattle.boundary.specs.Told as boundary
@@ -59,7 +59,7 @@ planned_by k order fates t e large says order' fates' answered order_left fates-
     }
 
 -- `plan_into`
-pub plan_into_gives : (lifetimes : Lfts 2) (table : Table) (budget : ℕ) (order fates order' fates' : Bor (List ℕ)) (d : Decision)
+pub plan_into_gives : (lifetimes : Lfts 2) (table : Table) (budget : ℕ) (order fates order' fates' : MutBor (List ℕ)) (d : Decision)
     (t : Records) → planner.Promised lifetimes table budget order fates d order' fates' → check table ≡ taken t
     → is_budget budget ≡ true → HasRoom order.now fates.now
     → PlannedBy (with_budget t budget) order.now fates.now (decision_says d) order'.now fates'.now
@@ -109,7 +109,7 @@ at_front text out h says after answered left =
     record { answer = answered ∙ rw fits; out_left = left ∙ rw fits }
 
 -- `list`: the listing
-pub list_gives : (lifetimes : Lfts 2) (text out after : Bor (List ℕ)) (w : Written)
+pub list_gives : (lifetimes : Lfts 2) (text : Bor (List ℕ)) (out after : MutBor (List ℕ)) (w : Written)
     → listing.Promised lifetimes text out w after → length (listing_of text.now) ≤ length out.now
     → AtFront (listing_of text.now) out.now (written_says w) after.now
 unfolding listing
@@ -118,7 +118,7 @@ list_gives lifetimes text out after w promise h =
     (ap (λ (a : AfterWriting). a.answer) promise) (ap (λ (a : AfterWriting). a.out) promise)
 
 -- `list_with_budget`
-pub list_with_gives : (lifetimes : Lfts 2) (text : Bor (List ℕ)) (budget : ℕ) (out after : Bor (List ℕ)) (w : Written)
+pub list_with_gives : (lifetimes : Lfts 2) (text : Bor (List ℕ)) (budget : ℕ) (out after : MutBor (List ℕ)) (w : Written)
     → listing.PromisedWith lifetimes text budget out w after → length (listed_with text.now budget) ≤ length out.now
     → AtFront (listed_with text.now budget) out.now (written_says w) after.now
 unfolding listing_with
@@ -145,7 +145,7 @@ writing_valid : (t : Table) (out : List ℕ) → WithinPlaces t → Valid (recor
 unfolding writing written_of
 writing_valid t out fits valid = rw ((check_exactly t (records_of t)).1 (valid, refl, fits))
 
-pub write_gives : (lifetime : Lfts 1) (t : Table) (out after : Bor (List ℕ)) (w : Written)
+pub write_gives : (lifetime : Lfts 1) (t : Table) (out after : MutBor (List ℕ)) (w : Written)
     → writer.Promised lifetime t out w after → WithinPlaces t → Valid (records_of t)
     → length (text_of (records_of t)) ≤ length out.now
     → AtFront (text_of (records_of t)) out.now (written_says w) after.now

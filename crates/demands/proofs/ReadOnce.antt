@@ -8,7 +8,7 @@ use mathlib.Core.Path.{◌≡◌, refl, sym, ap, ◌∙◌}
 use Prim.Native.Nat.{ℕ, ◌<◌}
 use native.Mathlib.Omega.{arith}
 use contract.Lifetimes.{Lfts}
-use denote.Ref.{Bor}
+use denote.Ref.{Bor, MutBor}
 use lib.ListN.{length}
 use Rattle.boundary.proofs.Unique.{plan_unique, text_known}
 use Rattle.boundary.specs.Told as boundary
@@ -89,7 +89,7 @@ module _ (text : List ℕ) where
 -- the calls of Rattle
 
 module _ (lifetime : Lfts 1) (text : Bor (List ℕ)) (r : Reading) (promise : reader.Promised lifetime text r) where
-  pub plan_into_as_the_one : r.verdict ≡ Verdict.Done → (lifetimes : Lfts 2) (order fates order' fates' : Bor (List ℕ))
+  pub plan_into_as_the_one : r.verdict ≡ Verdict.Done → (lifetimes : Lfts 2) (order fates order' fates' : MutBor (List ℕ))
       (d : Decision) → planner.Promised lifetimes r.table r.table.budget order fates d order' fates'
       → LeavesAsTheOne text.now order.now fates.now (decision_says d) order'.now fates'.now
   plan_into_as_the_one done lifetimes order fates order' fates' d planned =
@@ -153,7 +153,7 @@ module _ (text : List ℕ) (r : TableAnswer) (promise : boundary.ReadTold text r
 -- the budget beside
 
 module _ (table : Table) (budget : ℕ) (own : is_budget table.budget ≡ true) (beside : is_budget budget ≡ true) where
-  pub same_as_its_own : (l l* : Lfts 2) (order fates a b a' b' : Bor (List ℕ)) (d e : Decision)
+  pub same_as_its_own : (l l* : Lfts 2) (order fates a b a' b' : MutBor (List ℕ)) (d e : Decision)
       → planner.Promised l table budget order fates d a b
       → planner.Promised l* (table_with_budget table budget) budget order fates e a' b'
       → (d ≡ e) × (a.now ≡ a'.now) × (b.now ≡ b'.now)
@@ -190,7 +190,7 @@ listed_alike lines lines* out w v a b p q same =
     let all = p ∙ sym (ap (λ ls. written ls out) same) ∙ sym q in
     (written_unique w v (ap (λ (x : AfterWriting). x.answer) all), ap (λ (x : AfterWriting). x.out) all)
 
-module _ (l l* : Lfts 2) (text out a b : Bor (List ℕ)) (w v : Written) (p : lists.Promised l text out w a) where
+module _ (l l* : Lfts 2) (text : Bor (List ℕ)) (out a b : MutBor (List ℕ)) (w v : Written) (p : lists.Promised l text out w a) where
   pub list_at_own_budget : (t : Records) → read text.now ≡ taken t → lists.PromisedWith l* text t.budget out v b
       → (w ≡ v) × (a.now ≡ b.now)
   unfolding listing listing_with
@@ -206,7 +206,7 @@ module _ (l l* : Lfts 2) (text out a b : Bor (List ℕ)) (w v : Written) (p : li
       (listed_refused text.now why line e budget)
 
 -- with a budget beside a text, and with it in the T of another
-pub list_with_as_its_own : (l l* : Lfts 2) (text text* out a b : Bor (List ℕ)) (w v : Written) (t : Records) (budget : ℕ)
+pub list_with_as_its_own : (l l* : Lfts 2) (text text* : Bor (List ℕ)) (out a b : MutBor (List ℕ)) (w v : Written) (t : Records) (budget : ℕ)
     → read text.now ≡ taken t → is_budget budget ≡ true → text*.now ≡ text_of (with_budget t budget)
     → lists.Promised l text* out w a → lists.PromisedWith l* text budget out v b → (w ≡ v) × (a.now ≡ b.now)
 unfolding listing listing_with

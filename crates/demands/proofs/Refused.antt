@@ -4,7 +4,7 @@ use mathlib.Core.List.{List, [], ◌∷◌}
 use mathlib.Core.Path.{◌≡◌, sym, ap, ◌∙◌}
 use Prim.Native.Nat.{ℕ}
 use contract.Lifetimes.{Lfts}
-use denote.Ref.{Bor}
+use denote.Ref.{Bor, MutBor}
 use lib.ListN.{length}
 use Rattle.boundary.specs.Told as boundary
 use Rattle.boundary.specs.declared.CostsAnswer.{CostsAnswer}
@@ -42,7 +42,7 @@ use Rattle.writer.proofs.Unique as writer
 
 -- the calls of Rattle
 
-pub plan_into_refuses : (lifetimes : Lfts 2) (table : Table) (budget : ℕ) (order fates order' fates' : Bor (List ℕ)) (d : Decision)
+pub plan_into_refuses : (lifetimes : Lfts 2) (table : Table) (budget : ℕ) (order fates order' fates' : MutBor (List ℕ)) (d : Decision)
     → planner.Promised lifetimes table budget order fates d order' fates'
     → Refuses (PlanRefused table budget order.now fates.now) (decision_says d) (0 ∷ 0 ∷ 0 ∷ [])
     ((order'.now ≡ order.now) × (fates'.now ≡ fates.now))
@@ -58,21 +58,21 @@ plan_refuses table budget order fates begin r fates' promise =
     carried (planning_refuses table budget order fates) promise.decided
     (λ held. (promise.plan ∙ held.2, promise.fates-left ∙ held.1))
 
-pub list_refuses : (lifetimes : Lfts 2) (text out after : Bor (List ℕ)) (w : Written)
+pub list_refuses : (lifetimes : Lfts 2) (text : Bor (List ℕ)) (out after : MutBor (List ℕ)) (w : Written)
     → listing.Promised lifetimes text out w after
     → Refuses (ListRefused (listing_of text.now) out.now) (written_says w) (0 ∷ []) (after.now ≡ out.now)
 list_refuses lifetimes text out after w promise =
     carried (listing_refuses text.now out.now) (ap (λ (a : AfterWriting). a.answer) promise)
     (λ held. ap (λ (a : AfterWriting). a.out) promise ∙ held)
 
-pub list_with_refuses : (lifetimes : Lfts 2) (text : Bor (List ℕ)) (budget : ℕ) (out after : Bor (List ℕ)) (w : Written)
+pub list_with_refuses : (lifetimes : Lfts 2) (text : Bor (List ℕ)) (budget : ℕ) (out after : MutBor (List ℕ)) (w : Written)
     → listing.PromisedWith lifetimes text budget out w after
     → Refuses (ListRefused (listed_with text.now budget) out.now) (written_says w) (0 ∷ []) (after.now ≡ out.now)
 list_with_refuses lifetimes text budget out after w promise =
     carried (listing_with_refuses text.now budget out.now) (ap (λ (a : AfterWriting). a.answer) promise)
     (λ held. ap (λ (a : AfterWriting). a.out) promise ∙ held)
 
-pub write_refuses : (lifetime : Lfts 1) (t : Table) (out after : Bor (List ℕ)) (w : Written)
+pub write_refuses : (lifetime : Lfts 1) (t : Table) (out after : MutBor (List ℕ)) (w : Written)
     → writer.Promised lifetime t out w after
     → Refuses (WriteRefused t out.now) (written_says w) (0 ∷ []) (after.now ≡ out.now)
 write_refuses lifetime t out after w promise =

@@ -4,7 +4,7 @@ use mathlib.Core.List.{List}
 use mathlib.Core.Path.{◌≡◌, sym, ap, ◌∙◌}
 use Prim.Native.Nat.{ℕ, ◌≤◌}
 use contract.Lifetimes.{Lfts}
-use denote.Ref.{Bor}
+use denote.Ref.{Bor, MutBor}
 use lib.ListN.{length, take}
 use Rattle.demands.specs.Trips.{SameTable, SameText}
 use Rattle.grammar.proofs.Readings.{reading_done}
@@ -37,14 +37,14 @@ same_text text out after table w (rs, took, stands) answered left room =
 module _ (lifetime lifetime' : Lfts 1) where
   -- Demand 2: what `read` answers, handed to `write` with room.
   pub text_again : (text : Bor (List ℕ)) (r : Reading) → Reads lifetime text r → r.verdict ≡ Verdict.Done
-      → (out after : Bor (List ℕ)) (w : Written) → Writes lifetime' r.table out w after → length text.now ≤ length out.now
+      → (out after : MutBor (List ℕ)) (w : Written) → Writes lifetime' r.table out w after → length text.now ≤ length out.now
       → SameText text.now out.now after.now w
   text_again text r read_it done out after w written_it room =
       let found = reading_done text.now r read_it done in
       same_text text.now out.now after.now r.table w found written_it.answer written_it.buffer room
 
   -- Demand 2: what `write` put at the front of the buffer, handed to `read`.
-  pub table_again : (t : Table) (out after : Bor (List ℕ)) (n : ℕ) → Writes lifetime' t out (Written.Length n) after
+  pub table_again : (t : Table) (out after : MutBor (List ℕ)) (n : ℕ) → Writes lifetime' t out (Written.Length n) after
       → (text : Bor (List ℕ)) → text.now ≡ take n after.now → (r : Reading) → Reads lifetime text r
       → SameTable t r
   unfolding reading_up_to table_answer_up_to

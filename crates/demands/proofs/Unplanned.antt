@@ -9,7 +9,7 @@ use Prim.Native.Nat.{ℕ, zero, suc, ◌-◌, ◌≤◌, ◌<◌}
 use native.Mathlib.Omega.{arith}
 use borrow.Author.Tests.{eqb-true}
 use contract.Lifetimes.{Lfts}
-use denote.Ref.{Bor}
+use denote.Ref.{Bor, MutBor}
 use lib.Dec.{eqb}
 use lib.ListN.{drop, get_or, length, length-append, length-map, length-replicate, replicate, take}
 use lib.Seq.{take-append_seam}
@@ -220,7 +220,7 @@ module _ (set : ℕ → Bool) where
     checked_valid : (t : Table) (r : Records) → check t ≡ taken r → Valid r
     checked_valid t r e = ((check_exactly t r).0 e).0
 
-    module _ (lifetimes lifetimes* : Lfts 2) (order order* fates fates* order' order*' fates' fates*' : Bor (List ℕ))
+    module _ (lifetimes lifetimes* : Lfts 2) (order order* fates fates* order' order*' fates' fates*' : MutBor (List ℕ))
         (d e : Decision) where
       pub unplanned_do_not_matter_to_plan_into :
           planner.Promised lifetimes table budget order fates d order' fates'
@@ -294,7 +294,7 @@ module _ (set : ℕ → Bool) where
         (rw same without*) (rw (listed_at_own text a agree.first) x)
         (rw one (rw (listed_at_own text* b agree.second) y)))
 
-  module _ (lifetimes lifetimes* : Lfts 2) (text text* out out* after after* : Bor (List ℕ)) (w v : Written) (a b : Records)
+  module _ (lifetimes lifetimes* : Lfts 2) (text text* : Bor (List ℕ)) (out out* after after* : MutBor (List ℕ)) (w v : Written) (a b : Records)
       (agree : BothAgree set (read text.now) (read text*.now) a b) where
     pub unplanned_do_not_matter_to_list : a.budget ≡ b.budget
         → listing.Promised lifetimes text out w after → listing.Promised lifetimes* text* out* v after*

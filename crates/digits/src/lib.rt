@@ -1,4 +1,6 @@
 // Numbers and whole lines, written as bytes into a lent buffer.
+#![tactic(auto)]
+
 ghost use Rattle.std.specs.Prelude.{◌≡◌, ℕ, ◌+◌, ◌≤◌, length};
 ghost use Rattle.digits.specs.Rows.{most_numbers, row_lines, tab_rows};
 ghost use Rattle.grammar.specs.Put.{put};

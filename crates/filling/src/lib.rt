@@ -1,4 +1,6 @@
 // Functions that fill lent buffers and slices: with the front of another, with job numbers, with fates, with 0, or at one place.
+#![tactic(auto)]
+
 ghost use Rattle.std.specs.Prelude.{map, ◌≡◌, ◌≤◌, get_or, length, replicate, set, take};
 ghost use Rattle.columns.specs.Columns.{AllBelow};
 ghost use Rattle.laws.specs.Overwritten.{overwritten};

@@ -1,7 +1,7 @@
 -- What a reader owns: what its text owns, and the facts of its place. It is Copy, so what it owns is had twice; its text's
 -- part can be taken out of it; a reader is made of a text's part and the facts of a place; and with a kind, which owns only
--- facts, it is taken apart for a function that asks for the text, the place and the kind. The walks share these. Assumes
--- what `Logic` holds.
+-- facts, it is taken apart for a function that asks for the text, the place and the kind. Laws for a walk by hand over a
+-- function that is passed a reader or hands one back; those of this crate need none. Assumes what `Logic` holds.
 use mathlib.Core.List.{List, [], ◌∷◌}
 use mathlib.Core.Path.{◌≡◌}
 use Prim.Native.Nat.{ℕ}
@@ -86,7 +86,7 @@ module _ (κ : Lft) where
   values d = (d.text, (d.place, tt))
 
   abbrev pub Own : Reader → Fml
-  Own d = (OfReader (κ, tt)).own d (T'.lowered d ∷ [])
+  Own d = (OfReader (κ, tt)).own_val d (T'.lowered d ∷ [])
 
   abbrev pub OwnText : Bor (List ℕ) → Fml
   OwnText text = (ShrSlice (named 0) κ u8).own_val text (text_val text ∷ [])

@@ -1,6 +1,6 @@
--- Any two answers that a promise of this crate allows are equal: each promise says the whole value. For the five calls that
--- are walked by hand the promise is the record of specs/ that the contract says (`start_says` and so on, by computation); of the readers
--- that come back the text, where it begins and the place are the same. Assumes nothing.
+-- Any two answers that a promise of this crate allows are equal: each promise says the whole value. For the four calls over a
+-- reader and for `take` the promise is the record of specs/ that the contract says (`start_says` and so on, by computation); of
+-- the readers that come back the text, where it begins and the place are the same. Assumes nothing.
 use mathlib.Core.List.{List}
 use mathlib.Core.Path.{◌≡◌, refl, sym, ap, ◌∙◌}
 use Prim.Native.Nat.{ℕ}

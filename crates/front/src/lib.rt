@@ -1,6 +1,8 @@
 // The box's front end: one reader that keeps the text and the reading place together. Its functions are thin: each takes
 // the reader apart and leaves the work to the cursor, over a plain slice. `take` stands above them with plain parameters,
-// for callers who would else need a walk by hand; the T line of a text is read by it.
+// for callers with a text and a place by themselves; the T line of a text is read by it.
+#![tactic(auto)]
+
 ghost use Rattle.std.specs.Prelude.{◌≡◌, ◌<◌, length};
 ghost use Rattle.front.specs.ClockLine.{clock_line_says, first_line, line_one_says};
 ghost use Rattle.front.specs.Reading.{Moved, Next, Placed, Started, Took, taken_at};
@@ -14,14 +16,14 @@ use rules::{Field, MOST_JOBS, Refusal};
 use text::{Cursor, FieldTaken, LETTER_T, Parsed};
 
 // The text, and the reading place in it.
-#[derive(Drop)]
+#[derive(Clone, Copy)]
 pub struct Reader<'a> {
     pub text: &'a [u8],
     pub place: Cursor,
 }
 
 // Which field stands next: the letter of a line, a number with a tab behind it, or the last of the line.
-#[derive(Drop)]
+#[derive(Clone, Copy)]
 pub enum Kind {
     Letter,
     Number,
@@ -29,7 +31,7 @@ pub enum Kind {
 }
 
 // The T line's clock and budget, or the refusal of line 1.
-#[derive(Drop)]
+#[derive(Clone, Copy)]
 pub enum ClockLine {
     Clock(u64, u64),
     Refused(Refusal, u64),

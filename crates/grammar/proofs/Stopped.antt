@@ -12,7 +12,7 @@ use borrow.Author.Tests.{not-false}
 use lib.ListN.{length}
 use Rattle.laws.proofs.Tests.{both_true}
 use Rattle.rules.specs.Lists.{empty}
-use Rattle.rules.specs.Refusals.{Before, Item, Judged, Taken, accept, accept_up_to, accepted, added, and_then, at_end, critical_after, fault_of, fault_of_up_to, judged, may_stand, one, out_of_order, out_of_range, own_request, refused_at, refused_for, rises, take_from, take_from_up_to, taken, too_many, unknown_job, with_more}
+use Rattle.rules.specs.Refusals.{Before, Item, Judged, Taken, accept, accept_up_to, accepted, and_then, at_end, critical_after, fault_of, fault_of_up_to, judged, may_stand, one, out_of_order, out_of_range, own_request, refused_at, refused_for, rises, take_from, take_from_up_to, taken, too_many, unknown_job, with_more}
 use Rattle.rules.specs.TableText.{Record, Records, in_range}
 use Rattle.rules.specs.declared.Refusal.{Refusal}
 use Rattle.rules.specs.declared.Speed.{Speed}

@@ -4,7 +4,7 @@ use mathlib.Core.List.{List}
 use mathlib.Core.Path.{◌≡◌, refl, sym, ◌∙◌}
 use Prim.Native.Nat.{ℕ}
 use contract.Lifetimes.{Lfts}
-use denote.Ref.{Gone, Bor}
+use denote.Ref.{Gone, MutBor}
 use Rattle.handing.proofs.hand_back.Reads.{Learnt}
 use Rattle.handing.specs.Promises.{HandedBack}
 use Rattle.rules.specs.declared.Decision.{Decision}
@@ -14,6 +14,6 @@ pub hand_back_unique : (order : List ℕ) (begin : ℕ × ℕ) (d : Decision) (p
 hand_back_unique order begin d part part' at at' p q = (p.part_is ∙ sym q.part_is, p.begins ∙ sym q.begins)
 
 -- the contract of `hand_back` is that record
-pub hand_back_says : (lifetime : Lfts 1) (order : Bor (List ℕ)) (d : Decision) (r : Bor (List ℕ)) (spent : Gone)
+pub hand_back_says : (lifetime : Lfts 1) (order : MutBor (List ℕ)) (d : Decision) (r : MutBor (List ℕ)) (spent : Gone)
     → Learnt lifetime (order, (d, tt)) r (spent, (d, tt)) ≡ HandedBack order.now order.ref_ptr d r.now r.ref_ptr
 hand_back_says lifetime order d r spent = refl

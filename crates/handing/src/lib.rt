@@ -1,4 +1,6 @@
 // The front part of a lent buffer, handed back as long as a plan.
+#![tactic(auto)]
+
 ghost use Rattle.handing.specs.Promises.{HandedBack};
 
 use rules::Decision;

@@ -2,6 +2,8 @@
 // and judged, and nothing is moved. The changes are the first so many of two lent columns, in the order of the walk: the places of
 // jobs, and their new keys. What is kept of the plan's entries, at their jobs' places, spares the run what does not change: the
 // cycles run by their ends, and their latest beginnings.
+#![tactic(auto)]
+
 ghost use Rattle.std.specs.Prelude.{cond, not, ◌≡◌, ◌≤◌, ◌<◌, ltb, get_or, length};
 ghost use Rattle.columns.specs.Columns.{AllBelow, AtMost};
 ghost use Rattle.entries.specs.Places.{not_planned};
@@ -25,7 +27,7 @@ pub const NO_BOUND: u64 = 1000000000000;
 pub const LATE: u64 = 1000000000000000000;
 
 // How many changes are noted, and how many of them move a planned job.
-#[derive(Drop)]
+#[derive(Clone, Copy)]
 pub struct Noted {
     pub changes: usize,
     pub moved: usize,
@@ -33,7 +35,7 @@ pub struct Noted {
 
 // A run through a new order: the cycles that have run, or LATE; how many entries of the plan are passed, and how many of those
 // have left it.
-#[derive(Drop)]
+#[derive(Clone, Copy)]
 pub struct Run {
     pub cycles: u64,
     pub passed: usize,
@@ -41,7 +43,7 @@ pub struct Run {
 }
 
 // What a judgement finds: the fate, and how many entries are passed when nothing changes behind.
-#[derive(Drop)]
+#[derive(Clone, Copy)]
 pub struct Judged {
     pub fate: u64,
     pub passed: usize,

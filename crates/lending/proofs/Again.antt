@@ -15,7 +15,7 @@ use denote.Ref.{MutBor}
 use denote.Shadow.{pure_i, pure_l}
 use denote.Slice.{MutSlice, Room, mut_slice_at, coded_holeys, finally, heres, slice_val}
 use types.Logic.{Logic, sem}
-use seplogic.Ra.TreeShare.{full_share}
+use base.Fraction.{full_share}
 use seplogic.Ra.Ura.{Ura}
 use lib.ListN.{length}
 use mir.Syntax.{Lifetime}

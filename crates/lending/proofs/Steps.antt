@@ -1,5 +1,5 @@
--- Steps that walks by hand share, as laws over any context: a local is copied, the slice in a local is borrowed into
--- another one, and a local is let go at the return. A position counts the entries of the context from 0; an equation says
+-- Steps that walks by hand share, as laws over any context: a local is copied, the pointer and the length of the slice in a
+-- local are read, and a local is let go at the return. A position counts the entries of the context from 0; an equation says
 -- what stands there, and in a walk `refl` shows it. Assumes what `Logic` holds.
 use mathlib.Core.Bool.{true}
 use mathlib.Core.List.{List, [], ◌∷◌}
@@ -9,16 +9,16 @@ use base.Fml.{Share, fat, fdies, froom}
 use base.Logic.{assoc', ent, mono_l, mono_r, sep, via}
 use denote.Slice.{slice_ty, slice_val}
 use types.Logic.{Logic}
-use seplogic.Ra.TreeShare.{full_share}
+use base.Fraction.{full_share}
 use seplogic.Ra.Ura.{Ura}
 use lib.Dec.{T as Holds}
-use mir.Syntax.{Body, Lifetime, Mutability, Ty, addr_of, aggregate, assign, copy, deref, field, place, seq, ty_int, ty_ref}
+use mir.Syntax.{Lifetime, Mutability, Ty, addr_of, copy, deref, field, place, ty_int, ty_ref}
 use mir.Syntax.{w64}
 use mir.Val.{Val, WT, has_ty, vint, vptr}
-use prog.Wp.{Calls, Env, Loops, Spot, spot_of}
-use types.Kit.{Goal, Item, Post, Step, ‵, ◌$◌, del, frees, mean, nth, pull, put, runs, step, ⋆}
-use types.Part.{Part, agg, look_in, sub, whole}
-use types.Run.{Opd, Rv, Walks, addr, and_then, assigns, fld, from, hop, init, load, look, no_more, stop}
+use prog.Wp.{Env, Spot, spot_of}
+use types.Kit.{Goal, Item, Step, ‵, del, frees, mean, nth, pull, put, step, ⋆}
+use types.Part.{Part, look_in, sub, whole}
+use types.Run.{Opd, Rv, Walks, addr, fld, from, hop, load, look, stop}
 
 -- what a value must be to lie at a type
 abbrev pub Fits : Ty → Val → Type 0
@@ -30,14 +30,14 @@ slice_fits h = (tt, (tt, (record { fits = h }, tt)))
 
 module _ {M : Type 1} {𝓤 : Ura M} (𝓛 : Logic 𝓤) (Γ : List (Item 𝓤)) (n : ℕ) (at : Spot 𝓤 𝓛.H) where
   -- position n has a share of the cell there, with the value v; or room for a value
-  abbrev Lies : Share → Val → Type 2
+  abbrev pub Lies : Share → Val → Type 2
   Lies q v = nth 𝓛 n Γ ≡ ‵ (fat q at.0 at.1 at.2 v)
 
-  abbrev Free : Type 2
+  abbrev pub Free : Type 2
   Free = nth 𝓛 n Γ ≡ ‵ (froom at.0 at.1 at.2)
 
   -- the context once v is stored there
-  abbrev stored : Val → List (Item 𝓤)
+  abbrev pub stored : Val → List (Item 𝓤)
   stored v = put 𝓛 n (‵ (fat full_share at.0 at.1 at.2 v)) Γ
 
 module _ {M : Type 1} {𝓤 : Ura M} {𝓛 : Logic 𝓤} {K : Type 0} where
@@ -85,24 +85,3 @@ module _ {M : Type 1} {𝓤 : Ura M} {𝓛 : Logic 𝓤} {K : Type 0} where
       length_of t =
           load t (from t (subst (λ (sp : Spot 𝓤 H). Walks K 𝓛 Γ E sp (field 1 ∷ []) (ty_int w64, c, 8)) (sym local)
           (fld t refl (stop t)))) (look_in t n (sub t 1 refl (cell_of t there)))
-
-module _ {M : Type 1} {𝓤 : Ura M} {𝓛 : Logic 𝓤} {K : Type 0} {Γ : List (Item 𝓤)} where
-  -- the slice in local i, at position n, is borrowed into local k, at z, by way of its pointer in local j, at y
-  open 𝓛 use {H}
-
-  module _ {C : Calls 𝓤 H} {Λ : Loops 𝓤 H} {E : Env 𝓤 H} {p : Post 𝓤 H} {i j k : ℕ} {rest : Body} where
-    pub borrows : K → (n y z : ℕ) {q : Share} {ℓ : Lifetime} {m : Mutability} {τ : Ty} {c : ℕ} {at : ℕ × ℕ} {len : ℕ}
-        → spot_of 𝓤 H E i ≡ (slice_ty (ty_ref ℓ m τ), c, zero)
-        → Lies 𝓛 Γ n (slice_ty (ty_ref ℓ m τ), c, zero) q (slice_val at len)
-        → Free 𝓛 Γ y (spot_of 𝓤 H E j) → Fits (spot_of 𝓤 H E j).0 (vptr at.0 at.1)
-        → (let Δ = stored 𝓛 Γ y (spot_of 𝓤 H E j) (vptr at.0 at.1) in
-        Lies 𝓛 Δ y (spot_of 𝓤 H E j) full_share (vptr at.0 at.1)
-        → Lies 𝓛 Δ n (slice_ty (ty_ref ℓ m τ), c, zero) q (slice_val at len)
-        → Free 𝓛 Δ z (spot_of 𝓤 H E k) → Fits (spot_of 𝓤 H E k).0 (slice_val at len)
-        → Step K 𝓛 (stored 𝓛 Δ z (spot_of 𝓤 H E k) (slice_val at len)) (runs C Λ E rest p) Γ
-        (runs C Λ E (seq (assign (place j []) (addr_of (place i (field 0 ∷ deref τ ∷ []))))
-        (seq (assign (place k []) (aggregate (copy (place j []) ∷ copy (place i (field 1 ∷ [])) ∷ []))) rest)) p))
-    borrows t n y z local there free_y fits_y at_y still free_z fits_z = step (λ s.
-        assigns t (pointer_of n local there t) (from t (stop t)) (init t y free_y fits_y)
-        $ assigns t (agg t (and_then t (copied t y at_y) (and_then t (length_of n local still t) (no_more t))))
-        (from t (stop t)) (init t z free_z fits_z) $ s)

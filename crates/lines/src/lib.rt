@@ -1,4 +1,6 @@
 // One line of a table text, judged after the lines accepted so far.
+#![tactic(auto)]
+
 ghost use Rattle.std.specs.Prelude.{◌≡◌, ◌≤◌};
 ghost use Rattle.records.specs.Faults.{fault_says};
 ghost use Rattle.rules.specs.Refusals.{Before};

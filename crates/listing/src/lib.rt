@@ -1,4 +1,6 @@
 // "The listing": the program's lines into a lent buffer.
+#![tactic(auto)]
+
 ghost use Rattle.std.specs.Prelude.{◌≡◌, ◌+◌, ◌^◌, ◌≤◌, ◌<◌, length};
 ghost use Rattle.columns.specs.Columns.{besides};
 ghost use Rattle.grammar.specs.Put.{put};
@@ -22,7 +24,7 @@ use rules::{
 };
 
 // What stands beside a text that is listed: nothing, or a budget.
-#[derive(Drop)]
+#[derive(Clone, Copy)]
 enum Beside {
     Nothing,
     Budget(u64),

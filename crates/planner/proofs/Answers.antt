@@ -3,7 +3,7 @@
 use mathlib.Core.List.{List}
 use mathlib.Core.Path.{◌≡◌, refl, ap, ◌∙◌}
 use Prim.Native.Nat.{ℕ}
-use denote.Ref.{Bor}
+use denote.Ref.{MutBor}
 use lib.ListN.{take}
 use Rattle.handing.specs.Promises.{HandedBack, planned_count}
 use Rattle.planner.specs.Promises.{PlannedAs}
@@ -22,10 +22,10 @@ abbrev pub IntoLeaves : Taken → (order fates : List ℕ) → Decision → (ord
 IntoLeaves k order fates d order' fates' = leaves d order' fates' ≡ planning_of k order fates
 
 -- what `hand_back` says of the part
-abbrev pub Handed : Decision → List ℕ → ℕ × ℕ → Bor (List ℕ) → Type 0
+abbrev pub Handed : Decision → List ℕ → ℕ × ℕ → MutBor (List ℕ) → Type 0
 Handed d order begin part = HandedBack order begin d part.now part.ref_ptr
 
-pub plan_promised : (k : Taken) (order fates order' fates' : List ℕ) (begin : ℕ × ℕ) (d : Decision) (part : Bor (List ℕ))
+pub plan_promised : (k : Taken) (order fates order' fates' : List ℕ) (begin : ℕ × ℕ) (d : Decision) (part : MutBor (List ℕ))
     → IntoLeaves k order fates d order' fates' → Handed d order' begin part
     → PlannedAs k order fates begin (record { plan = part; decision = d }) fates'
 plan_promised k order fates order' fates' begin d part decided handed = record {

@@ -5,7 +5,7 @@ use mathlib.Core.List.{List, [], ◌∷◌, ◌++◌}
 use mathlib.Core.Path.{◌≡◌, refl, ap, ◌∙◌}
 use Prim.Native.Nat.{ℕ, zero, suc}
 use contract.Lifetimes.{Lfts}
-use denote.Ref.{Bor}
+use denote.Ref.{MutBor}
 use lib.ListN.{drop, length, take}
 use Rattle.handing.specs.Promises.{HandedBack, planned_count}
 use Rattle.planner.specs.Promises.{Together}
@@ -22,7 +22,7 @@ front_and_behind zero xs = refl
 front_and_behind (suc n) [] = refl
 front_and_behind (suc n) (x ∷ xs) = ap (λ (r : List ℕ). x ∷ r) (front_and_behind n xs)
 
-pub plan_into_then_hand_back : (lifetimes : Lfts 2) (table : Table) (budget : ℕ) (order fates order' fates' : Bor (List ℕ))
+pub plan_into_then_hand_back : (lifetimes : Lfts 2) (table : Table) (budget : ℕ) (order fates order' fates' : MutBor (List ℕ))
     (d : Decision) (begin at : ℕ × ℕ) (part : List ℕ) → Promised lifetimes table budget order fates d order' fates'
     → HandedBack order'.now begin d part at
     → Together (taken_with table budget) order.now fates.now begin order'.now part at

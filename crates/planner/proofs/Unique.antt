@@ -7,7 +7,7 @@ use Prim.Native.Nat.{ℕ}
 use base.Logic.{SProp}
 use contract.Lifetimes.{Lfts}
 use contract.Monad.{Fun, fact}
-use denote.Ref.{Gone, Bor}
+use denote.Ref.{Gone, MutBor}
 use types.Logic.{Logic}
 use seplogic.Ra.Ura.{Ura}
 use prog.Memory.{Memory}
@@ -25,12 +25,12 @@ use Rattle.rules.specs.declared.Panel.{Panel}
 use Rattle.rules.specs.declared.Table.{Table}
 
 -- what the promise of `plan_into` tells a caller of a decision and the lent buffers behind the call
-abbrev pub Promised : Lfts 2 → Table → (budget : ℕ) → (order fates : Bor (List ℕ)) → Decision → (order' fates' : Bor (List ℕ))
+abbrev pub Promised : Lfts 2 → Table → (budget : ℕ) → (order fates : MutBor (List ℕ)) → Decision → (order' fates' : MutBor (List ℕ))
     → Type 0
 Promised lifetimes table budget order fates r order' fates' =
     Learnt lifetimes (table, (budget, (order, (fates, tt)))) r (table, (budget, (order', (fates', tt))))
 
-pub unique_into : (lifetimes : Lfts 2) (table : Table) (budget : ℕ) (order fates a b a' b' : Bor (List ℕ)) (r s : Decision)
+pub unique_into : (lifetimes : Lfts 2) (table : Table) (budget : ℕ) (order fates a b a' b' : MutBor (List ℕ)) (r s : Decision)
     → Promised lifetimes table budget order fates r a b → Promised lifetimes table budget order fates s a' b'
     → (r ≡ s) × (a.now ≡ a'.now) × (b.now ≡ b'.now)
 unique_into lifetimes table budget order fates a b a' b' r s p q =
@@ -51,12 +51,12 @@ unique_plan table budget order fates begin r s b b' p q = (
 )
 
 -- what the promise of `rooms` tells a caller of the panel's answer and the lent buffers behind the call
-abbrev pub PromisedRooms : Lfts 2 → Table → (budget : ℕ) → (turns rooms : Bor (List ℕ)) → Panel → (turns' rooms' : Bor (List ℕ))
+abbrev pub PromisedRooms : Lfts 2 → Table → (budget : ℕ) → (turns rooms : MutBor (List ℕ)) → Panel → (turns' rooms' : MutBor (List ℕ))
     → Type 0
 PromisedRooms lifetimes table budget turns rooms r turns' rooms' =
     telling.Learnt lifetimes (table, (budget, (turns, (rooms, tt)))) r (table, (budget, (turns', (rooms', tt))))
 
-pub unique_rooms : (lifetimes : Lfts 2) (table : Table) (budget : ℕ) (turns rooms a b a' b' : Bor (List ℕ)) (r s : Panel)
+pub unique_rooms : (lifetimes : Lfts 2) (table : Table) (budget : ℕ) (turns rooms a b a' b' : MutBor (List ℕ)) (r s : Panel)
     → PromisedRooms lifetimes table budget turns rooms r a b → PromisedRooms lifetimes table budget turns rooms s a' b'
     → (r ≡ s) × (a.now ≡ a'.now) × (b.now ≡ b'.now)
 unique_rooms lifetimes table budget turns rooms a b a' b' r s p q =
@@ -68,7 +68,7 @@ unique_rooms lifetimes table budget turns rooms a b a' b' r s p q =
 
 -- the contract of `plan` is that record
 module _ {M : Type 1} {𝓤 : Ura M} (𝓛 : Logic 𝓤) (mem : Memory → SProp 𝓤) (run : Routine → Fun 𝓤) (κs : Lfts 2) where
-  pub plan-says : (table : Table) (budget : ℕ) (order fates fates' : Bor (List ℕ)) (spent : Gone) (r : Planned)
+  pub plan-says : (table : Table) (budget : ℕ) (order fates fates' : MutBor (List ℕ)) (spent : Gone) (r : Planned)
       → (plan.clauses 𝓛 mem run κs (table, (budget, (order, (fates, tt))))).ensures tt r (table, (budget, (spent, (fates', tt))))
       ≡ fact 𝓤 (PlannedAs (taken_with table budget) order.now fates.now order.ref_ptr r fates'.now)
   plan-says table budget order fates fates' spent r = refl

@@ -1,4 +1,6 @@
 // The planner: a table and a budget beside it in, a plan out, or the room that it leaves after each turn.
+#![tactic(auto)]
+
 ghost use Rattle.std.specs.Prelude.{◌≡◌};
 ghost use Rattle.planner.specs.Promises.{BeforeTable, PlannedAs};
 ghost use Rattle.plans.specs.Promises.{leaves, tells};

@@ -32,7 +32,7 @@ course_in_order t order n e = ap (λ is. course t is no_turn_yet) e
 
 each_unmapped : {A B : Type 0} {P : B → Type 0} (f : A → B) {xs : List A} → Each P (map f xs) → Each (λ x. P (f x)) xs
 each_unmapped f {xs = []} none_left = none_left
-each_unmapped f {xs = x ∷ xs} (p and ps) = p and each_unmapped f ps
+each_unmapped {P} f {xs = x ∷ xs} (p and ps) = p and each_unmapped {P = P} f {xs = xs} ps
 
 -- whose turn it is, remains
 turn_remains : (t : Records) → Valid t → (order : List ℕ) (n : ℕ) → map (turn_at t) (take n order) ≡ turns t → (i : ℕ) → i < n

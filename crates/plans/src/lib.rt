@@ -1,4 +1,6 @@
 // Steps 5 to 9 of "From jobs to a plan": the course of turns, the fates, the plan of a valid table, and its rooms (document 02, A2).
+#![tactic(auto)]
+
 ghost use Rattle.std.specs.Prelude.{◌≡◌, ◌-◌, ◌*◌, ◌≤◌, length};
 ghost use Rattle.columns.specs.Columns.{AllBelow, besides};
 ghost use Rattle.plans.specs.Courses.{course_left, decision_left, left_beside, turns_by};
@@ -21,7 +23,7 @@ use trials::{JobInTurn, Totals, turn};
 
 // What the course of turns leaves beside the plan's places and the fate that each job's own turn gave, which stand in lent
 // columns: the plan's totals, and how many turns there were.
-#[derive(Drop)]
+#[derive(Clone, Copy)]
 pub struct CourseTaken {
     pub totals: Totals,
     pub turns: usize,
@@ -29,7 +31,7 @@ pub struct CourseTaken {
 
 // The decision, beside the plan's places and each job's fate in lent columns: how many places they are, the speed and the
 // energy; how many turns there were, and the room that is left at the end, by the plan record's total.
-#[derive(Drop)]
+#[derive(Clone, Copy)]
 pub struct Decided {
     pub count: usize,
     pub speed: Speed,

@@ -1,4 +1,6 @@
 // Reads a table text: one line after the other, each judged after those accepted so far.
+#![tactic(auto)]
+
 ghost use Rattle.std.specs.Prelude.{◌≡◌};
 ghost use Rattle.rules.specs.Answers.{reading_says};
 ghost use Rattle.rules.specs.Refusals.{reading};

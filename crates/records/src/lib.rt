@@ -1,4 +1,6 @@
 // The judgement of one record, from its numbers and a small state of what stands before it: refusals 2 to 7.
+#![tactic(auto)]
+
 ghost use Rattle.std.specs.Prelude.{◌≡◌, ◌≤◌};
 ghost use Rattle.rules.specs.TableText.{Record, in_range, is_budget, most_holds, most_jobs, most_speeds};
 ghost use Rattle.records.specs.Faults.{HolderOf, clock_fault, speed_fault, job_fault, hold_fault, fault_says};
@@ -23,7 +25,7 @@ const MOST_RESOURCE: u64 = 32;
 
 // What stands before a line: whether the T does, how many of each other letter, and the first number of the last of each
 // (0 where there is none).
-#[derive(Drop)]
+#[derive(Clone, Copy)]
 pub struct Standing {
     pub begun: bool,
     pub speeds: usize,
@@ -35,13 +37,13 @@ pub struct Standing {
 }
 
 // The job that an H line names: what it requests, or that it is not in the table.
-#[derive(Drop)]
+#[derive(Clone, Copy)]
 pub enum Holder {
     Requests(u64),
     Unknown,
 }
 
-#[derive(Drop)]
+#[derive(Clone, Copy)]
 pub enum Judgement {
     Good,
     Bad(Refusal),

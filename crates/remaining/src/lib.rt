@@ -1,5 +1,7 @@
 // Steps 1 and 2 of "From jobs to a plan" for the whole table: which jobs are taken out, with their fates, and whom each
 // of the others waits for. What they find is put into lent columns, at the jobs' places: a column handed back would be copied.
+#![tactic(auto)]
+
 ghost use Rattle.std.specs.Prelude.{cond, not, ◌≡◌, ◌≤◌, ◌<◌, length, replicate};
 ghost use Rattle.chains.specs.Promises.{Comparable};
 ghost use Rattle.columns.specs.Columns.{AtMost};

@@ -1,4 +1,6 @@
 // The lines of ./plan --rooms, into a lent buffer: for each turn its number, its job, the room after it and the fate that it gave.
+#![tactic(auto)]
+
 ghost use Rattle.std.specs.Prelude.{◌≡◌, ◌≤◌, length};
 ghost use Rattle.digits.specs.Rows.{tab_rows};
 ghost use Rattle.listing.specs.Listed.{wrote};

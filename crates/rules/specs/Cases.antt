@@ -1,9 +1,9 @@
 -- Our own cases: a second table and claim. They refuse readings of documents 01 and 02 that the sheet lets pass.
-use Rattle.std.specs.Prelude.{refl, List, [], ◌∷◌, ◌++◌, map, ℕ, zero, suc, ◌+◌, ◌-◌, ◌*◌, replicate}
+use Rattle.std.specs.Prelude.{List, [], ◌∷◌, ◌++◌, map, ℕ, zero, suc, ◌+◌, ◌-◌, ◌*◌, replicate}
 use Prim.Native.String.{String}
 use Rattle.rules.specs.Answers.{decision_says, panel_says, written_says}
 use Rattle.rules.specs.Bytes.{bytes}
-use Rattle.rules.specs.Case.{AllRight, Case, Checking, Judging, Planning, Telling, checks, judges, lists, lists_rooms, lists_with, plans, reads, tells, writes, wrong}
+use Rattle.rules.specs.Case.{Case, Checking, Judging, Planning, Telling, checks, judges, lists, lists_rooms, lists_with, plans, reads, tells, writes}
 use Rattle.rules.specs.Refusals.{reading}
 use Rattle.rules.specs.Sheet.{case_s}
 use Rattle.rules.specs.TableText.{Record, Records, most_budget, most_jobs, no_records, record_text, table_of, table_with_budget, with_clock, with_counts, with_holds, with_jobs, with_speeds}
@@ -295,7 +295,3 @@ cases =
     ∷ record { text = "T\t7\t9\nF\t3\t0\n"; number = 2; line = 2; table = replicate (5 + 16 * 2 + most_jobs * 6 + 32 * 2) 0 }
     ∷ [])
     ∷ []
-
-pub cases_right : AllRight cases
-unfolding cases wrong
-cases_right = (refl, (refl, (refl, (refl, (refl, (refl, (refl, (refl, (refl, (refl, (refl, (refl, (refl, (refl, (refl, (refl, (refl, (refl, (refl, (refl, (refl, (refl, (refl, (refl, tt))))))))))))))))))))))))

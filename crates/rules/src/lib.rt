@@ -1,6 +1,8 @@
 // The things that document 01 speaks of: a table's records, and the answer of each call.
 // What is right is in specs/; here are only the shapes. The records are laid out as C lays them out, for callers in C and
 // Rust.
+#![tactic(auto)]
+
 ghost use Rattle.std.specs.Prelude.{◌≡◌};
 ghost use Rattle.rules.specs.Answers.{number_of};
 ghost use Rattle.rules.specs.Lists.{within};
@@ -42,7 +44,7 @@ pub fn within(low: u64, high: u64, n: u64) -> bool
 
 // An F line.
 #[repr(C)]
-#[derive(Drop)]
+#[derive(Clone, Copy)]
 pub struct Speed {
     pub mhz: u64,
     pub cost: u64,
@@ -50,7 +52,7 @@ pub struct Speed {
 
 // A J line.
 #[repr(C)]
-#[derive(Drop)]
+#[derive(Clone, Copy)]
 pub struct Job {
     pub number: u64,
     pub cycles: u64,
@@ -62,7 +64,7 @@ pub struct Job {
 
 // An H line.
 #[repr(C)]
-#[derive(Drop)]
+#[derive(Clone, Copy)]
 pub struct Hold {
     pub resource: u64,
     pub holder: u64,
@@ -71,7 +73,7 @@ pub struct Hold {
 // A whole table: the T line, and of each other letter the first so many places. It may hold anything; which tables are
 // valid is a definition of specs/.
 #[repr(C)]
-#[derive(Drop)]
+#[derive(Clone, Copy)]
 pub struct Table {
     pub clock: u64,
     pub budget: u64,
@@ -84,7 +86,7 @@ pub struct Table {
 }
 
 // What a refusal says, in the order of its numbers, from 1.
-#[derive(Drop)]
+#[derive(Clone, Copy)]
 pub enum Refusal {
     Shape,
     Range,
@@ -117,49 +119,49 @@ pub fn number_of(refusal: Refusal) -> u64
 }
 
 // A field is either a number or the refusal of its line.
-#[derive(Drop)]
+#[derive(Clone, Copy)]
 pub enum Field {
     Number(u64),
     Refused(Refusal, u64),
 }
 
 // The cycles allocated, or the refusal and its line.
-#[derive(Drop)]
+#[derive(Clone, Copy)]
 pub enum Allocated {
     Cycles(u64),
     Refused(Refusal, u64),
 }
 
 // What stands beside an answer that is too large for an enum.
-#[derive(Drop)]
+#[derive(Clone, Copy)]
 pub enum Verdict {
     Done,
     Refused(Refusal, u64),
 }
 
 // A cost model's seven costs; refused: seven zeros.
-#[derive(Drop)]
+#[derive(Clone, Copy)]
 pub struct Supplied {
     pub verdict: Verdict,
     pub costs: [u64; 7],
 }
 
 // A text's table; refused: the table without records.
-#[derive(Drop)]
+#[derive(Clone, Copy)]
 pub struct Reading {
     pub verdict: Verdict,
     pub table: Table,
 }
 
 // How many bytes were written to the front of a lent buffer, or the refusal and its line.
-#[derive(Drop)]
+#[derive(Clone, Copy)]
 pub enum Written {
     Length(usize),
     Refused(Refusal, u64),
 }
 
 // A plan's job count, speed and energy, or the refusal and its line.
-#[derive(Drop)]
+#[derive(Clone, Copy)]
 pub enum Decision {
     Plan {
         count: usize,
@@ -170,7 +172,7 @@ pub enum Decision {
 }
 
 // The panel's answer: how many turns there were and the room that is left at the end, or the refusal and its line.
-#[derive(Drop)]
+#[derive(Clone, Copy)]
 pub enum Panel {
     Told { turns: usize, room: u64 },
     Refused(Refusal, u64),

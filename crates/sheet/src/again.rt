@@ -37,47 +37,47 @@ fn marks(buffer: &[u8]) -> usize {
 }
 
 // Writes a table: the answer, and how many marks are left.
-pub(crate) fn write(table: Table) {
+pub(crate) fn write(out: &impl Print, table: Table) {
     let mut buffer = [MARK; MOST_WRITTEN];
-    put_written(writer::write(table, &mut buffer));
-    put_numbers(b"marks", &[marks(&buffer) as u64]);
+    put_written(out, writer::write(table, &mut buffer));
+    put_numbers(out, b"marks", &[marks(&buffer) as u64]);
 }
 
 // Whether the text that is written is the one that was read.
-fn put_whether_same(table: Table, text: &[u8]) {
+fn put_whether_same(out: &impl Print, table: Table, text: &[u8]) {
     let mut buffer = [MARK; MOST_WRITTEN];
     let written = writer::write(table, &mut buffer);
     let Written::Length(count) = written else {
         return;
     };
     if count == text.len() && begins_with(&buffer, text) {
-        put(b"same bytes\n");
+        put(out, b"same bytes\n");
     } else {
-        put(b"other bytes\n");
+        put(out, b"other bytes\n");
     }
 }
 
-fn put_verdict(verdict: Verdict) {
+fn put_verdict(out: &impl Print, verdict: Verdict) {
     match verdict {
-        Verdict::Done => put(b"read\n"),
-        Verdict::Refused(why, line) => put_refusal(why, line),
+        Verdict::Done => put(out, b"read\n"),
+        Verdict::Refused(why, line) => put_refusal(out, why, line),
     }
 }
 
 // The verdict, the table's T line and counts, and the table written again. A refused text has the table without records,
 // which the writer refuses.
-pub(crate) fn read_and_write(text: &[u8]) {
+pub(crate) fn read_and_write(out: &impl Print, text: &[u8]) {
     let reading = reader::read(text);
     let verdict = reading.verdict;
-    put_verdict(verdict);
+    put_verdict(out, verdict);
     let table = reading.table;
-    put_numbers(b"T", &[table.clock, table.budget]);
+    put_numbers(out, b"T", &[table.clock, table.budget]);
     let counts = [
         table.speed_count as u64,
         table.job_count as u64,
         table.hold_count as u64,
     ];
-    put_numbers(b"counts", &counts);
-    write(table);
-    put_whether_same(table, text);
+    put_numbers(out, b"counts", &counts);
+    write(out, table);
+    put_whether_same(out, table, text);
 }

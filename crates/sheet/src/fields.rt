@@ -27,15 +27,15 @@ fn left_behind(left: u64, value: u64) -> u64 {
     field_count(value) as u64
 }
 
-fn put_field(left: u64, line: u64, value: u64) {
+fn put_field(out: &impl Print, left: u64, line: u64, value: u64) {
     if left == 0 {
-        put_numbers(b"letter", &[line, value]);
+        put_numbers(out, b"letter", &[line, value]);
         return;
     }
-    put_numbers(b"number", &[line, value]);
+    put_numbers(out, b"number", &[line, value]);
 }
 
-pub(crate) fn every_field(text: &[u8]) {
+pub(crate) fn every_field(out: &impl Print, text: &[u8]) {
     let mut place = Cursor { at: 0, line: 1 };
     let mut left: u64 = 0;
     for _ in 0..MOST_TAKEN {
@@ -46,11 +46,11 @@ pub(crate) fn every_field(text: &[u8]) {
         let field = taken.field;
         match field {
             Field::Number(value) => {
-                put_field(left, place.line, value);
+                put_field(out, left, place.line, value);
                 left = left_behind(left, value);
             }
             Field::Refused(why, line) => {
-                put_refusal(why, line);
+                put_refusal(out, why, line);
                 return;
             }
         }

@@ -2,9 +2,9 @@
 use crate::report::{put_numbers, put_refusal};
 use front::ClockLine;
 
-pub(crate) fn first_line(text: &[u8]) {
+pub(crate) fn first_line(out: &impl Print, text: &[u8]) {
     match front::clock_and_budget(text) {
-        ClockLine::Clock(clock, budget) => put_numbers(b"T", &[clock, budget]),
-        ClockLine::Refused(why, line) => put_refusal(why, line),
+        ClockLine::Clock(clock, budget) => put_numbers(out, b"T", &[clock, budget]),
+        ClockLine::Refused(why, line) => put_refusal(out, why, line),
     }
 }

@@ -2,45 +2,45 @@
 use crate::report::{put_numbers, put_refusal};
 use rules::{Allocated, Verdict};
 
-fn put_allocation(mean: u64, variance: u64, assurance: u64) {
-    put_numbers(b"# allocate", &[mean, variance, assurance]);
+fn put_allocation(out: &impl Print, mean: u64, variance: u64, assurance: u64) {
+    put_numbers(out, b"# allocate", &[mean, variance, assurance]);
     match cycles::allocate(mean, variance, assurance) {
-        Allocated::Cycles(allocated) => put_numbers(b"cycles", &[allocated]),
-        Allocated::Refused(why, line) => put_refusal(why, line),
+        Allocated::Cycles(allocated) => put_numbers(out, b"cycles", &[allocated]),
+        Allocated::Refused(why, line) => put_refusal(out, why, line),
     }
 }
 
 // The sheet's, the ends of the ranges, and each number outside its range.
-pub(crate) fn allocations() {
-    put_allocation(100, 100, 900);
-    put_allocation(100, 101, 900);
-    put_allocation(100, 100, 0);
-    put_allocation(1000000, 1, 500);
-    put_allocation(1, 0, 999);
-    put_allocation(1000000, 1000000000000, 0);
-    put_allocation(1, 1000000000000, 499);
-    put_allocation(1, 1000000000000, 500);
-    put_allocation(0, 100, 900);
-    put_allocation(1000001, 0, 0);
-    put_allocation(100, 1000000000001, 0);
-    put_allocation(100, 100, 1000);
-    put_allocation(u64::MAX, u64::MAX, u64::MAX);
+pub(crate) fn allocations(out: &impl Print) {
+    put_allocation(out, 100, 100, 900);
+    put_allocation(out, 100, 101, 900);
+    put_allocation(out, 100, 100, 0);
+    put_allocation(out, 1000000, 1, 500);
+    put_allocation(out, 1, 0, 999);
+    put_allocation(out, 1000000, 1000000000000, 0);
+    put_allocation(out, 1, 1000000000000, 499);
+    put_allocation(out, 1, 1000000000000, 500);
+    put_allocation(out, 0, 100, 900);
+    put_allocation(out, 1000001, 0, 0);
+    put_allocation(out, 100, 1000000000001, 0);
+    put_allocation(out, 100, 100, 1000);
+    put_allocation(out, u64::MAX, u64::MAX, u64::MAX);
 }
 
-fn supply(model: u64) {
-    put_numbers(b"# supplied", &[model]);
+fn supply(out: &impl Print, model: u64) {
+    put_numbers(out, b"# supplied", &[model]);
     let supplied = costs::supplied(model);
     let verdict = supplied.verdict;
     if let Verdict::Refused(why, line) = verdict {
-        put_refusal(why, line);
+        put_refusal(out, why, line);
     }
     let costs = supplied.costs;
-    put_numbers(b"costs", &costs);
+    put_numbers(out, b"costs", &costs);
 }
 
 // The three models and those beside them; a refusal has seven zero costs.
-pub(crate) fn costs() {
+pub(crate) fn costs(out: &impl Print) {
     for model in 0..5 {
-        supply(model);
+        supply(out, model);
     }
 }

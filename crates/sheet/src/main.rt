@@ -17,6 +17,8 @@
 //
 // A buffer is marked before it is lent, so that what a call leaves alone shows its mark. What the calls promise is proved of
 // them; of what a program prints no contract can speak, and so the report is compared.
+#![tactic(auto)]
+
 mod again;
 mod bent;
 mod fields;
@@ -27,83 +29,129 @@ mod report;
 mod room;
 mod turns;
 
+use caller::{fail, read_full};
 use report::put;
+use std::env::{Env, FillError};
+use std::fs::{File, Files};
+use std::io;
+use std::io::{ErrorKind, Write};
 
 // No text that is tried is longer.
 const MOST_INPUT: usize = 8192;
 
+// Room for an argument.
+const MOST_NAME: usize = 4096;
+
 // The four letters of the report and the colon.
 const REPORT: usize = 5;
 
+// The system's numbers of what may be wrong with an argument; it has none for one that is too short.
+const NO_ERROR: i32 = 0;
+
+const MISSING: i32 = 22;
+
+const TOO_LONG: i32 = 36;
+
 // The listing, in a buffer that has room for every one.
-fn list(text: &[u8]) {
+fn list(out: &impl Print, text: &[u8]) {
     let mut lines = [0u8; 1200];
     let listed = listing::list(text, &mut lines);
-    report::put_listing(listed, &lines);
+    report::put_listing(out, listed, &lines);
 }
 
 // The listing with a budget beside the text.
-fn list_with(text: &[u8], budget: u64) {
+fn list_with(out: &impl Print, text: &[u8], budget: u64) {
     let mut lines = [0u8; 1200];
     let listed = listing::list_with_budget(text, budget, &mut lines);
-    report::put_listing(listed, &lines);
+    report::put_listing(out, listed, &lines);
 }
 
-fn list_many(text: &[u8]) {
-    list_with(text, 0);
-    list_with(text, 2499999999);
-    list_with(text, plan::MOST_BUDGET);
-    list_with(text, plan::MOST_BUDGET + 1);
+fn list_many(out: &impl Print, text: &[u8]) {
+    list_with(out, text, 0);
+    list_with(out, text, 2499999999);
+    list_with(out, text, plan::MOST_BUDGET);
+    list_with(out, text, plan::MOST_BUDGET + 1);
 }
 
 // The report that begins with the letter.
-fn run(letter: u8, text: &[u8]) {
+fn run(out: &impl Print, letter: u8, text: &[u8]) {
     match letter {
-        b'l' => list(text),
-        b'p' => plan::all_three(text),
-        b'k' => plan::turn_the_knob(text),
-        b'm' => list_many(text),
-        b'r' => room::each_call(text),
-        b'e' => turns::after_each(text),
-        b't' => again::read_and_write(text),
-        b'b' => bent::each_way(text),
-        b'h' => head::first_line(text),
-        b'w' => fields::every_field(text),
-        _ => put(b"no such report\n"),
+        b'l' => list(out, text),
+        b'p' => plan::all_three(out, text),
+        b'k' => plan::turn_the_knob(out, text),
+        b'm' => list_many(out, text),
+        b'r' => room::each_call(out, text),
+        b'e' => turns::after_each(out, text),
+        b't' => again::read_and_write(out, text),
+        b'b' => bent::each_way(out, text),
+        b'h' => head::first_line(out, text),
+        b'w' => fields::every_field(out, text),
+        _ => put(out, b"no such report\n"),
     }
 }
 
 // The case of a file.
-fn run_file(letter: u8, path: &[u8]) {
-    let fd = os::open_read(path);
-    if fd < 0 {
-        os::fail(path);
+fn run_file(rt: &(impl Files + Print), say: &mut impl Write, letter: u8, path: &[u8]) {
+    let Ok(path) = str::from_utf8(path) else {
+        let _ = fail(say, "argument", io::Error::from(ErrorKind::InvalidFilename));
         return;
-    }
+    };
+    let mut file = match File::open(rt, path) {
+        Ok(file) => file,
+        Err(why) => {
+            let _ = fail(say, path, why);
+            return;
+        }
+    };
     let mut text = [0u8; MOST_INPUT];
-    let count = io::read_full(fd, &mut text);
-    libc::close(fd);
-    run(letter, &text[..count]);
+    let count = read_full(&mut file, &mut text);
+    run(rt, letter, &text[..count]);
+}
+
+// What the system says of an argument that is missing, and of one that is too long.
+fn why_none(why: FillError) -> io::Error {
+    match why {
+        FillError::NotPresent => io::Error::from_raw_os_error(MISSING),
+        FillError::TooLong => io::Error::from_raw_os_error(TOO_LONG),
+    }
 }
 
 // The case that an argument names.
-fn run_argument(i: usize) {
-    let mut name = io::buffer();
-    let count = os::arg(i, &mut name);
-    if os::errno() != 0 || count < REPORT {
-        os::fail(b"argument");
+fn run_argument(rt: &(impl Env + Files + Print), say: &mut impl Write, i: usize) {
+    let mut name = [0u8; MOST_NAME];
+    let count = match rt.arg(i, &mut name) {
+        Ok(count) => count,
+        Err(why) => {
+            let _ = fail(say, "argument", why_none(why));
+            return;
+        }
+    };
+    if count < REPORT {
+        let _ = fail(say, "argument", io::Error::from_raw_os_error(NO_ERROR));
         return;
     }
-    report::put_name(&name[..count]);
+    report::put_name(rt, &name[..count]);
     let letter = name[0];
-    run_file(letter, &name[REPORT..count]);
+    run_file(rt, say, letter, &name[REPORT..count]);
 }
 
-fn main() {
-    let count = os::arg_count();
-    for i in 1..count {
-        run_argument(i);
+// How many words the command line has, the program's name among them.
+fn count_words(words: &impl Env) -> usize {
+    for place in 0..usize::MAX {
+        let mut front = [0u8; 1];
+        if let Err(FillError::NotPresent) = words.arg(place, &mut front) {
+            return place;
+        }
     }
-    leaves::allocations();
-    leaves::costs();
+    usize::MAX
+}
+
+fn main(rt: HostRuntime) {
+    let mut say = rt.stderr();
+    let count = count_words(&rt);
+    for i in 1..count {
+        run_argument(&rt, &mut say, i);
+    }
+    leaves::allocations(&rt);
+    leaves::costs(&rt);
 }

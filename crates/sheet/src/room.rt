@@ -16,58 +16,58 @@ fn bytes_written(written: Written) -> usize {
 }
 
 // The answer and the whole buffer.
-fn put_buffer(written: Written, buffer: &[u8; BYTES]) -> usize {
-    put_written(written);
-    put(buffer);
-    put(b"\n");
+fn put_buffer(out: &impl Print, written: Written, buffer: &[u8; BYTES]) -> usize {
+    put_written(out, written);
+    put(out, buffer);
+    put(out, b"\n");
     bytes_written(written)
 }
 
 // `list`, with so many places of the buffer.
-fn list_places(text: &[u8], places: usize) -> usize {
+fn list_places(out: &impl Print, text: &[u8], places: usize) -> usize {
     if places > BYTES {
         return 0;
     }
     let mut buffer = [MARK; BYTES];
     let written = listing::list(text, &mut buffer[..places]);
-    put_buffer(written, &buffer)
+    put_buffer(out, written, &buffer)
 }
 
 // `write`, with so many places of the buffer.
-fn write_places(table: Table, places: usize) -> usize {
+fn write_places(out: &impl Print, table: Table, places: usize) -> usize {
     if places > BYTES {
         return 0;
     }
     let mut buffer = [MARK; BYTES];
     let written = writer::write(table, &mut buffer[..places]);
-    put_buffer(written, &buffer)
+    put_buffer(out, written, &buffer)
 }
 
-fn list_rooms(text: &[u8]) {
-    let needed = list_places(text, BYTES);
+fn list_rooms(out: &impl Print, text: &[u8]) {
+    let needed = list_places(out, text, BYTES);
     if needed > 0 {
-        list_places(text, needed);
-        list_places(text, needed - 1);
+        list_places(out, text, needed);
+        list_places(out, text, needed - 1);
     }
 }
 
-fn write_rooms(table: Table) {
-    let needed = write_places(table, BYTES);
+fn write_rooms(out: &impl Print, table: Table) {
+    let needed = write_places(out, table, BYTES);
     if needed > 0 {
-        write_places(table, needed);
-        write_places(table, needed - 1);
+        write_places(out, table, needed);
+        write_places(out, table, needed - 1);
     }
 }
 
-pub(crate) fn each_call(text: &[u8]) {
+pub(crate) fn each_call(out: &impl Print, text: &[u8]) {
     let reading = reader::read(text);
     let table = reading.table;
-    put_part_name(b"plan_into, 64 and 64 places, 63 and 70, 70 and 63");
-    plan_into_places(table, table.budget, 64, 64);
-    plan_into_places(table, table.budget, 63, PLACES);
-    plan_into_places(table, table.budget, PLACES, 63);
-    put_part_name(b"list, 64 places, as many as it needs, one fewer");
-    list_rooms(text);
-    put_part_name(b"write, 64 places, as many as it needs, one fewer");
-    write_rooms(table);
+    put_part_name(out, b"plan_into, 64 and 64 places, 63 and 70, 70 and 63");
+    plan_into_places(out, table, table.budget, 64, 64);
+    plan_into_places(out, table, table.budget, 63, PLACES);
+    plan_into_places(out, table, table.budget, PLACES, 63);
+    put_part_name(out, b"list, 64 places, as many as it needs, one fewer");
+    list_rooms(out, text);
+    put_part_name(out, b"write, 64 places, as many as it needs, one fewer");
+    write_rooms(out, table);
 }

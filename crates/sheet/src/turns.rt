@@ -6,21 +6,21 @@ use crate::report::{put_numbers, put_part_name, put_refusal};
 use rules::{Panel, Table};
 
 // How many turns there were, and the room that is left at the end.
-fn put_panel(panel: Panel) {
+fn put_panel(out: &impl Print, panel: Panel) {
     match panel {
-        Panel::Told { turns, room } => put_numbers(b"left", &[turns as u64, room]),
-        Panel::Refused(why, line) => put_refusal(why, line),
+        Panel::Told { turns, room } => put_numbers(out, b"left", &[turns as u64, room]),
+        Panel::Refused(why, line) => put_refusal(out, why, line),
     }
 }
 
 // Both buffers, whole.
-fn put_rooms(turns: &[u64; PLACES], rooms: &[u64; PLACES]) {
-    put_numbers(b"turns", turns);
-    put_numbers(b"rooms", rooms);
+fn put_rooms(out: &impl Print, turns: &[u64; PLACES], rooms: &[u64; PLACES]) {
+    put_numbers(out, b"turns", turns);
+    put_numbers(out, b"rooms", rooms);
 }
 
 // `rooms`, with so many places of both buffers; what is printed are all of them.
-fn rooms_places(table: Table, budget: u64, turn_places: usize, room_places: usize)
+fn rooms_places(out: &impl Print, table: Table, budget: u64, turn_places: usize, room_places: usize)
     requires { (turn_places ≤ 70) × (room_places ≤ 70) }
 {
     let mut turns = [MARK; PLACES];
@@ -31,23 +31,23 @@ fn rooms_places(table: Table, budget: u64, turn_places: usize, room_places: usiz
         &mut turns[..turn_places],
         &mut rooms[..room_places],
     );
-    put_panel(panel);
-    put_rooms(&turns, &rooms);
+    put_panel(out, panel);
+    put_rooms(out, &turns, &rooms);
 }
 
 // The text read once, and the rooms of its table with several budgets beside it. A refused text has the table without records,
 // which is refused as well.
-pub(crate) fn after_each(text: &[u8]) {
+pub(crate) fn after_each(out: &impl Print, text: &[u8]) {
     let reading = reader::read(text);
     let table = reading.table;
-    put_part_name(b"its own budget");
-    rooms_places(table, table.budget, PLACES, PLACES);
-    put_part_name(b"budget 0, 64 and 64 places");
-    rooms_places(table, 0, 64, 64);
-    put_part_name(b"the most budget, 70 and 64 places");
-    rooms_places(table, MOST_BUDGET, PLACES, 64);
-    put_part_name(b"one more; then also 63 and 70 places, 70 and 63");
-    rooms_places(table, MOST_BUDGET + 1, PLACES, PLACES);
-    rooms_places(table, MOST_BUDGET + 1, 63, PLACES);
-    rooms_places(table, MOST_BUDGET + 1, PLACES, 63);
+    put_part_name(out, b"its own budget");
+    rooms_places(out, table, table.budget, PLACES, PLACES);
+    put_part_name(out, b"budget 0, 64 and 64 places");
+    rooms_places(out, table, 0, 64, 64);
+    put_part_name(out, b"the most budget, 70 and 64 places");
+    rooms_places(out, table, MOST_BUDGET, PLACES, 64);
+    put_part_name(out, b"one more; then also 63 and 70 places, 70 and 63");
+    rooms_places(out, table, MOST_BUDGET + 1, PLACES, PLACES);
+    rooms_places(out, table, MOST_BUDGET + 1, 63, PLACES);
+    rooms_places(out, table, MOST_BUDGET + 1, PLACES, 63);
 }

@@ -1,4 +1,6 @@
 // Step 9 of "From jobs to a plan", by document 02's A1: the speed that a plan is run at, and the energy.
+#![tactic(auto)]
+
 ghost use Rattle.std.specs.Prelude.{◌≡◌};
 ghost use Rattle.entries.specs.Promises.{cycles_at};
 ghost use Rattle.speeds.specs.Promises.{CheapestFrom, Choosable, ChosenSpeed, EnergiesInRange, FirstInTime};
@@ -8,7 +10,7 @@ use entries::in_time;
 use rules::{MOST_JOBS, MOST_SPEEDS, Speed};
 
 // The speed of a plan, and its energy.
-#[derive(Drop)]
+#[derive(Clone, Copy)]
 pub struct Chosen {
     pub speed: Speed,
     pub energy: u64,

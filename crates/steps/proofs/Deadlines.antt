@@ -1,6 +1,6 @@
 -- The deadline in cycles is the comparison in ms, for whoever has a cycle to run. What runs in order is in time by parts, and behind
 -- so many cycles exactly if these are at most its latest beginning. Assumes nothing.
-use mathlib.Core.Bool.{Bool, true, false, ◌&&◌, and_assoc}
+use mathlib.Core.Bool.{true, false, ◌&&◌, and_assoc}
 use mathlib.Core.List.{List, [], ◌∷◌, ◌++◌, map}
 use mathlib.Core.Path.{◌≡◌, refl, sym, ap, ◌∙◌}
 use Prim.Native.Nat.{ℕ, ◌+◌, ◌*◌, ◌-◌, ◌/◌, ◌≤◌, ◌<◌, min}

@@ -3,7 +3,7 @@
 use mathlib.Core.Bool.{true, false}
 use mathlib.Core.Path.{◌≡◌, refl}
 use Prim.Native.Nat.{ℕ}
-use Rattle.rules.specs.Plan.{Ratio, Run, ends_by, ends_in_time, gives, top_of, weight_in}
+use Rattle.rules.specs.Plan.{Run, ends_by, ends_in_time, gives, top_of, weight_in}
 use Rattle.rules.specs.TableText.{Records}
 use Rattle.rules.specs.declared.Job.{Job}
 

@@ -14,6 +14,7 @@ mod Totals
 pub mod Faster
 pub mod Qualified
 pub mod Cheapest
+pub mod Chosen
 pub mod Speeds
 pub mod Planned
 pub mod Overtaken

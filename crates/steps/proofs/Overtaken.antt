@@ -21,7 +21,7 @@ use Rattle.steps.proofs.Totals.{plan_weight, weight, weight_kept, weight_le, wei
 use Rattle.steps.proofs.Trials.{Ordered, nobody}
 use Rattle.steps.proofs.Turns.{OfLeft, Runs}
 use Rattle.rules.specs.Lists.{Each, any, keep, none_left, ◌and◌}
-use Rattle.rules.specs.Plan.{Course, Entry, Fated, Turn, after, awaited, before, chain_of, course, course_of, cycles_of, fate_budget, fate_in, fate_planned, fate_ratio_zero, fate_time, in_plan, left, less, ratio_zero, same, no_turn_yet, too_dear, top_of, trial, turn, turns, waits_left, run_order}
+use Rattle.rules.specs.Plan.{Course, Entry, Fated, Turn, after, before, chain_of, course, course_of, cycles_of, fate_budget, fate_in, fate_planned, fate_ratio_zero, fate_time, in_plan, left, less, ratio_zero, same, no_turn_yet, too_dear, top_of, trial, turn, turns, waits_left, run_order}
 use Rattle.rules.specs.TableText.{Records}
 use Rattle.rules.specs.Valid.{Valid}
 use Rattle.rules.specs.declared.Job.{Job}

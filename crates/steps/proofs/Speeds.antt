@@ -14,6 +14,7 @@ use lib.Dec.{leb}
 use lib.ListN.{get_or, length}
 use Rattle.laws.proofs.Choices.{or_left, or_right, split}
 use Rattle.steps.proofs.Cheapest.{CheapestAt, cheapest_taken, cheapest_there, empty_costs_nothing, empty_takes_first}
+use Rattle.steps.proofs.Chosen.{SpeedChosen}
 use Rattle.steps.proofs.Course.{Sound, plan_sound}
 use Rattle.steps.proofs.Qualified.{both_qualify, qualified_both}
 use Rattle.laws.proofs.Elements.{each_at_place, each_last, each_of_places, each_too}
@@ -38,14 +39,6 @@ last_passes p d (f ∷ (g ∷ fs)) n h = or_right (p f) (any p (g ∷ fs)) (last
 top_qualifies : (t : Records) (p : List Entry) → Sound t p → qualifies t (run_order t p) (top_of t) ≡ true
 unfolding energy_at
 top_qualifies t p s = both_qualify t (run_order t p) (top_of t) s.in-time s.in_budget
-
--- The speed that step 9 names: it is one of the table's and qualifies, none that qualifies has less energy, and no lower one
--- as little.
-pub record SpeedChosen (t : Records) (js : List Job) (f : Speed) : Type 0 where
-  pub of_table : (k : ℕ) × (k < length t.speeds) × (get_or t.speeds k no_speed ≡ f)
-  pub qualified : qualifies t js f ≡ true
-  pub cheapest : Each (λ (g : Speed). qualifies t js g ≡ true → energy_at f js ≤ energy_at g js) t.speeds
-  pub lowest : Each (λ (g : Speed). qualifies t js g ≡ true → g.mhz < f.mhz → energy_at f js < energy_at g js) t.speeds
 
 -- speeds rise, so that a lower one stands before
 chosen_at : (t : Records) → Valid t → (js : List Job) (k : ℕ) → CheapestAt t js k → SpeedChosen t js (get_or t.speeds k no_speed)

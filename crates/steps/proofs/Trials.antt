@@ -17,7 +17,7 @@ use Rattle.laws.specs.Pairs.{Pairwise, no_pair, ◌then◌}
 use Rattle.laws.proofs.Pairs.{pairs_too}
 use Rattle.steps.proofs.Walks.{stands_after}
 use Rattle.rules.specs.Lists.{Each, find, none_left, ◌and◌}
-use Rattle.rules.specs.Plan.{Entry, Limited, Turn, awaited, begin, follow, in_plan, insert, is_of, member, member_found, member_new, member_planned, members, remove, same, stays_below, trial}
+use Rattle.rules.specs.Plan.{Entry, Limited, Turn, begin, follow, in_plan, insert, is_of, member, member_found, member_new, member_planned, members, remove, same, stays_below, trial}
 use Rattle.rules.specs.declared.Job.{Job}
 
 -- no job is exempt

@@ -1,5 +1,7 @@
 // Reads a table text by a cursor: a field, a row of fields, and one line with its record. Nothing is split or copied: the
 // text is lent to each call, and the reading place goes by value.
+#![tactic(auto)]
+
 ghost use Rattle.std.specs.Prelude.{◌≡◌, ◌+◌, ◌<◌, ◌≤◌, false, ltb, length, nat_le, nat_lt};
 ghost use Rattle.rules.specs.TableText.{digit_zero, field_count, is_digit, is_letter, is_number, letter_record, most_digits, most_fields};
 ghost use Rattle.text.specs.Fields.{NumberRead, RunRead, front, letter_at, line_behind, most_from, number_at, refused_field, row_at, row_says, taken_says};
@@ -23,14 +25,14 @@ const MOST_DIGITS: usize = 16;
 const MOST_LINE: u64 = 18446744073709551615;
 
 // The reading place, and the number of the line that it stands in.
-#[derive(Drop)]
+#[derive(Clone, Copy)]
 pub struct Cursor {
     pub at: usize,
     pub line: u64,
 }
 
 // A field's answer, and the reading place behind it; where the field is refused the reading place is where it was.
-#[derive(Drop)]
+#[derive(Clone, Copy)]
 pub struct FieldTaken {
     pub field: Field,
     pub next: Cursor,
@@ -38,21 +40,21 @@ pub struct FieldTaken {
 
 // Digits in a row: how many, the number that they stand for, and the byte that ends them; or no byte ends them, since the
 // text does, or they are too many for a number.
-#[derive(Drop)]
+#[derive(Clone, Copy)]
 enum DigitRun {
     Ended(usize, u64, u8),
     Unended,
 }
 
 // The reading place behind a row of numbers, or the refusal of its line.
-#[derive(Drop)]
+#[derive(Clone, Copy)]
 enum RowTaken {
     Behind(Cursor),
     Refused(Refusal, u64),
 }
 
 // What a line holds: the record of one of the four letters, or the refusal and the number of the line.
-#[derive(Drop)]
+#[derive(Clone, Copy)]
 pub enum Parsed {
     Clock(u64, u64),
     Speed(Speed),
@@ -63,7 +65,7 @@ pub enum Parsed {
 
 // A line's answer, and the reading place behind its line feed, in the next line. Where the line is refused the reading
 // place is where it was.
-#[derive(Drop)]
+#[derive(Clone, Copy)]
 pub struct Line {
     pub parsed: Parsed,
     pub next: Cursor,

@@ -10,5 +10,6 @@ mod SpeedRules
 mod Added
 mod Rooms
 mod Testers
+mod Promised
 mod TestersInstance
 mod NotTrue

@@ -23,7 +23,8 @@ use Rattle.rules.specs.TableText.{Records, no_speed}
 use Rattle.rules.specs.Valid.{Valid}
 use Rattle.rules.specs.declared.Job.{Job}
 use Rattle.rules.specs.declared.Speed.{Speed}
-use Rattle.steps.proofs.Speeds.{SpeedChosen, plan_speed}
+use Rattle.steps.proofs.Chosen.{SpeedChosen}
+use Rattle.steps.proofs.Speeds.{plan_speed}
 use Rattle.theorems.specs.SpeedRules.{SpeedRule, lowest_for, plan_by}
 
 pub by_the_rule : (t : Records) → plan_by speed_for t ≡ plan_of t

@@ -1,44 +1,34 @@
 -- The thirteen theorems for testers, of every valid table's plan, in one place. Each is proved where its reason is: Speeds (1, 2
 -- and 11), Planned (3, 4), Fates (4), Rings (5), Overtaken (6, 7, 8), NotEmpty (9), Again (10), SpeedRules (11), Rooms, Added and
 -- steps/proofs/Rooms (13), and the twelfth here. What is planned are a table's records with the budget beside it (`promises_beside`), so that "the budget" is that
--- one. Assumes nothing.
+-- one. `Promised` proves them. Assumes nothing.
 use mathlib.Core.Bool.{Bool, true, false}
-use mathlib.Core.List.{List, [], ◌∷◌, cons≢nil, map, reverse}
+use mathlib.Core.List.{List, [], ◌∷◌, map, reverse}
 use mathlib.Core.Logic.{◌⊎◌, ◌↔◌}
 use mathlib.Core.Option.{none}
 use mathlib.Core.Path.{◌≡◌, refl}
 use Prim.Native.Nat.{ℕ, ◌+◌, ◌*◌, ◌≤◌, ◌<◌}
 use lib.Dec.{eqb}
 use lib.ListN.{get_or, length, take}
-use Rattle.theorems.proofs.Again.{again, all_planned_again, planned, planned_again}
-use Rattle.grammar.proofs.BudgetBeside.{taken_beside}
-use Rattle.steps.proofs.Course.{AtEachTurn, at_each_turn_of}
-use Rattle.laws.proofs.Elements.{each_too}
-use Rattle.steps.proofs.Fates.{fates_1_to_6}
-use Rattle.theorems.proofs.NotEmpty.{not_empty, nothing_requested}
+use Rattle.theorems.proofs.Again.{again, planned}
+use Rattle.steps.proofs.Course.{AtEachTurn}
 use Rattle.theorems.proofs.Outside.{Alone}
-use Rattle.theorems.proofs.OutsideValid.{outside_valid}
-use Rattle.steps.proofs.Overtaken.{TakesIn, lacking, only_five_overtaken, plan_grows, planned_stays, six_stays_true}
+use Rattle.steps.proofs.Overtaken.{TakesIn, lacking}
 use Rattle.laws.specs.Pairs.{Distinct, Pairwise}
-use Rattle.steps.proofs.Planned.{HoldersBefore, each_fated, holders_before, one_exactly_for_planned, plan_counts_ones, planned_once, sound_holders_before}
-use Rattle.steps.proofs.Rings.{OnRing, Reaches, chain_at_most_33, last_waits_for_nobody, no_ring_left, one_leaves_each_ring, taken_only_from_rings}
-use Rattle.theorems.proofs.Rooms.{accepted_takes_what_it_adds, always_makes_budget, each_trial_adds, else_the_same, falls_where_accepted, five_whatever_room, last_room_is_the_last_row, last_room_makes_budget, room_before_all, rooms_never_rise, rows_tell_own_fates, six_exactly_by_room}
-use Rattle.steps.proofs.Rooms.{one_row_each_turn, room_after_turn}
-use Rattle.steps.proofs.Speeds.{SpeedChosen, energy_at_most_top, energy_in_budget, finish_in_time, no_lower_as_little, none_has_less, nothing_planned, plan_speed, planned_end_in_time, top_cost_in_budget}
-use Rattle.theorems.proofs.SpeedRules.{SinceVersionFour, by_the_rule, rule_leaves_plan_and_fates, since_version_four}
+use Rattle.steps.proofs.Planned.{HoldersBefore}
+use Rattle.steps.proofs.Rings.{OnRing, Reaches}
+use Rattle.steps.proofs.Chosen.{SpeedChosen}
+use Rattle.theorems.proofs.SpeedRules.{SinceVersionFour}
 use Rattle.theorems.specs.Rooms.{Accepted, ComesToTrial, MakesBudget, added_by, fated_in, rooms_along}
 use Rattle.theorems.specs.SpeedRules.{SpeedRule, plan_by}
 use Rattle.rules.specs.Listing.{finish}
 use Rattle.rules.specs.Lists.{Each, keep, last_or}
-use Rattle.rules.specs.Plan.{Entry, Fated, Turn, chain_of, course, course_of, gives, goes_rather, on_ring, ratio_of, taken_with, turn_of, weight_in, cycles_of, ends_in_time, ends_late, energy_at, fate_budget, fate_planned, fate_time, fates_of, in_plan, in_time, jobs_of, late_in, leaves_its_ring, leaves_ring, left, numbers_of, plan_from, plan_of, runs_of, no_turn_yet, speed_for, timely, top_of, trial, turn, turns, waits_left, waits_timely, run_order}
-use Rattle.rules.specs.Refusals.{taken}
+use Rattle.rules.specs.Plan.{Entry, Fated, Turn, chain_of, course, course_of, gives, goes_rather, on_ring, ratio_of, turn_of, weight_in, cycles_of, ends_in_time, ends_late, energy_at, fate_budget, fate_planned, fate_time, fates_of, in_plan, in_time, late_in, leaves_its_ring, leaves_ring, left, numbers_of, plan_of, runs_of, no_turn_yet, speed_for, timely, top_of, trial, turn, turns, waits_left, waits_timely, run_order}
 use Rattle.rules.specs.Rooms.{TurnRoom, last_room, room_left, rooms_of}
 use Rattle.rules.specs.TableText.{Records, no_job, no_speed, with_budget}
 use Rattle.rules.specs.Valid.{Valid}
 use Rattle.rules.specs.declared.Job.{Job}
 use Rattle.rules.specs.declared.Speed.{Speed}
-use Rattle.rules.specs.declared.Table.{Table}
-use Rattle.steps.proofs.RunOrder.{run-order}
 
 -- the job is in the final plan
 abbrev pub is_planned : Records → Job → Bool
@@ -143,88 +133,14 @@ pub record Promises (t : Records) : Type 0 where
       → (turn t i p).fate ≡ fate_time
 
 module _ (t : Records) (budget : ℕ) where
-  same_late : (j : Job) → late_in (with_budget t budget) j ≡ late_in t j
+  pub same_late : (j : Job) → late_in (with_budget t budget) j ≡ late_in t j
   unfolding late_in top_of
   same_late j = refl
 
-  same_rings : (j : Job) → leaves_its_ring (with_budget t budget) j ≡ leaves_its_ring t j
+  pub same_rings : (j : Job) → leaves_its_ring (with_budget t budget) j ≡ leaves_its_ring t j
   unfolding leaves_its_ring leaves_ring on_ring goes_rather weight_in waits_timely timely late_in top_of
   same_rings j = refl
 
-  same_turns : turns (with_budget t budget) ≡ turns t
+  pub same_turns : turns (with_budget t budget) ≡ turns t
   unfolding turns turn_of ratio_of gives chain_of left waits_left leaves_its_ring leaves_ring on_ring goes_rather weight_in waits_timely timely late_in top_of
   same_turns = refl
-
-module _ (t : Records) (v : Valid t) where
-  six_in_plan : Each (λ (i : Fated). i.fate ≡ fate_budget
-      → t.budget < (cycles_of (plan_of t).jobs + cycles_of (lacking t i.job)) * (top_of t).cost) (plan_of t).fates
-  unfolding plan_of plan_from
-  six_in_plan = each_fated t (six_stays_true t v)
-
-  no_job_no_entry : (plan_of t).jobs ≡ [] → (course_of t).plan ≡ []
-  unfolding plan_of plan_from jobs_of
-  no_job_no_entry e = from (course_of t).plan (rw (run-order t (course_of t).plan) at e)
-    where
-      from : (p : List Entry) → map (λ (e : Entry). e.job) p ≡ [] → p ≡ []
-      from [] e = refl
-      from (x ∷ p) e = absurd (cons≢nil e)
-
-  pub promises : Promises t
-  promises =
-      record {
-        energy_within_budget = energy_in_budget t v;
-        top_cost_within_budget = top_cost_in_budget t v;
-        speed_found = plan_speed t v;
-        ends-in-time = planned_end_in_time t v;
-        finish_by_termination = finish_in_time t v;
-        holder_before_waiter = holders_before t v;
-        holder_before_waiter_always = at_each_turn_of t v (λ i is c r s e. sound_holders_before t v s);
-        at_most_once = planned_once t v;
-        one_for_the_planned = each_fated t (one_exactly_for_planned t v);
-        count_of_ones = plan_counts_ones t v;
-        one_of_six = fates_1_to_6 t v;
-        one_from_each_ring = one_leaves_each_ring t v;
-        none_without_ring = taken_only_from_rings t v;
-        no_ring_after = no_ring_left t v;
-        chain_short = chain_at_most_33 t v;
-        chain_ends = last_waits_for_nobody t v;
-        never_leaves = planned_stays t v;
-        total_grows = plan_grows t v;
-        six_true_at_end = six_in_plan;
-        only_five = only_five_overtaken t v;
-        not_empty_if = each_too (λ j h w g b e. h w g b (no_job_no_entry e)) (not_empty t v);
-        no_request_no_wait = nothing_requested t v;
-        again_valid = outside_valid (planned t) t v;
-        same_again = planned_again t v;
-        planned_all_again = all_planned_again t v;
-        least-energy = none_has_less t v;
-        lowest_of_equals = no_lower_as_little t v;
-        first_speed_for_nothing = nothing_planned t v;
-        at_most_top_energy = energy_at_most_top t v;
-        by_step_9 = by_the_rule t;
-        any_speed_rule = λ rule. rule_leaves_plan_and_fates rule t;
-        against_version_four = since_version_four t v;
-        any_budget_late = same_late t;
-        any_budget_rings = same_rings t;
-        any_budget_turns = same_turns t;
-        room_makes_budget = always_makes_budget t v;
-        room_at_first = room_before_all t;
-        room_falls_exactly_if_accepted = falls_where_accepted t v;
-        room_falls_by_added = accepted_takes_what_it_adds t v;
-        room_else_the_same = else_the_same t v;
-        rooms_fall_or_stay = rooms_never_rise t v;
-        last_room_and_top_cost = last_room_makes_budget t v;
-        last_room_of_rows = last_room_is_the_last_row t;
-        row_for_each_turn = one_row_each_turn t;
-        room_in_each_row = room_after_turn t;
-        rows_in_own_fates = rows_tell_own_fates t;
-        trial_adds_cycles = each_trial_adds t v;
-        six_exactly_if_no_room = six_exactly_by_room t v;
-        five_at_any_room = five_whatever_room t;
-      }
-
--- They hold of whatever planning takes, and its budget is the one beside the table.
-pub promises_beside : (table : Table) (budget : ℕ) (t : Records) → taken_with table budget ≡ taken t
-    → (t.budget ≡ budget) × Promises t
-promises_beside table budget t e =
-    let (same, valid) = taken_beside table budget t e in (same, promises t valid)

@@ -59,11 +59,11 @@ key_of_only false e = refl
 pub pairs_unmapped : {A B : Type 0} {R : B → B → Type 0} (f : A → B) {xs : List A} → Pairwise R (map f xs)
     → Pairwise (λ x y. R (f x) (f y)) xs
 pairs_unmapped f {xs = []} no_pair = no_pair
-pairs_unmapped {R} f {xs = x ∷ xs} (r then rs) = each_unmapped f r then pairs_unmapped f rs
+pairs_unmapped {R} f {xs = x ∷ xs} (r then rs) = each_unmapped f r then pairs_unmapped {R = R} f {xs = xs} rs
   where
     each_unmapped : {A B : Type 0} {P : B → Type 0} (f : A → B) {xs : List A} → Each P (map f xs) → Each (λ x. P (f x)) xs
     each_unmapped f {xs = []} none_left = none_left
-    each_unmapped f {xs = x ∷ xs} (p and ps) = p and each_unmapped f ps
+    each_unmapped {P} f {xs = x ∷ xs} (p and ps) = p and each_unmapped {P = P} f {xs = xs} ps
 
 module _ (p : PlanParts) (job : JobInTurn) (c : TurnColumns) (terms : Terms)
     (stand : EntriesStand p.totals.count p.places p.keys) (t : Records) (of : TurnOf t p job c terms) where

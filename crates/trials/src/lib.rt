@@ -2,6 +2,8 @@
 // keys alone, the order that they would make is judged, and only an accepted trial moves anything. The plan is the first so many of
 // a lent column of places of jobs in the table. The key of each job stands in another, at the job's place, and what is kept of its
 // entry in two more: the cycles run by its end, and its latest beginning.
+#![tactic(auto)]
+
 ghost use Rattle.std.specs.Prelude.{◌≡◌, ◌-◌, ◌≤◌, min, length};
 ghost use Rattle.judgements.specs.Promises.{EndsTrue, LatestsTrue};
 ghost use Rattle.trials.specs.Promises.{Acceptable, Accepted, LeftUntouched, Renewable, Touchable, Turnable, TurnTaken, Walkable, WalkNoted};
@@ -14,21 +16,21 @@ use rules::{FATE_PLANNED, FATE_RATIO_ZERO, MOST_HOLDS, MOST_JOBS};
 
 // The plan record, by value beside the lent columns of its places and keys: how many entries it has, and the sum of their
 // cycles. So no pass over the entries adds them up again.
-#[derive(Drop)]
+#[derive(Clone, Copy)]
 pub struct Totals {
     pub count: usize,
     pub cycles: u64,
 }
 
 // The job whose turn it is: its place, and what the members of its chain give.
-#[derive(Drop)]
+#[derive(Clone, Copy)]
 pub struct JobInTurn {
     pub place: usize,
     pub over: u64,
 }
 
 // What a walk noted: the changes, and the cycles of those that come in.
-#[derive(Drop)]
+#[derive(Clone, Copy)]
 pub struct Walked {
     pub noted: Noted,
     pub added: u64,
@@ -36,14 +38,14 @@ pub struct Walked {
 
 // What a trial leaves as it stands: how many entries below all changes, and how many moved ones behind them that stand already
 // where they are to stand.
-#[derive(Drop)]
+#[derive(Clone, Copy)]
 pub struct Untouched {
     pub below: usize,
     pub settled: usize,
 }
 
 // What a turn leaves: the plan's totals, and the fate of the turn's job.
-#[derive(Drop)]
+#[derive(Clone, Copy)]
 pub struct Turned {
     pub totals: Totals,
     pub fate: u64,

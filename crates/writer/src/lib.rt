@@ -1,5 +1,7 @@
 // Writes a table as text into a lent buffer: first the check of the records, then the length of the text and the room, then
 // the lines, one after the other by their index.
+#![tactic(auto)]
+
 ghost use Rattle.std.specs.Prelude.{◌≡◌, ◌≤◌, ◌<◌, length};
 ghost use Rattle.columns.specs.Columns.{ColumnsOf, besides};
 ghost use Rattle.grammar.specs.Put.{put};
@@ -11,7 +13,7 @@ use checks::check_table;
 use rules::{Hold, MOST_FIELDS, MOST_JOBS, Refusal, Speed, Table, Verdict, Written};
 
 // Which record stands on a line: its letter, and its place among the table's records of that letter.
-#[derive(Drop)]
+#[derive(Clone, Copy)]
 enum LineRecord {
     Clock,
     Speed(usize),
@@ -20,7 +22,7 @@ enum LineRecord {
 }
 
 // A line's letter and its numbers: the first `count` of those here.
-#[derive(Drop)]
+#[derive(Clone, Copy)]
 struct Row {
     letter: u8,
     count: usize,
