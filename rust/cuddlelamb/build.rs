@@ -1,5 +1,5 @@
-//! Links the archive of the library: on x86-64 that of `rt staticlib boundary`; elsewhere, with the feature `native`,
-//! that of `tools/native`. Where it is neither, src/lib.rs says so. Which archive it is hangs on the machine and the
+//! Links the archive of the library: on x86-64 that of `tools/archive`; elsewhere, with the feature `native`, that of
+//! `tools/native`. Where it is neither, src/lib.rs says so. Which archive it is hangs on the machine and the
 //! feature alone: nothing is looked up in the environment but what cargo itself says there.
 
 use std::env::var;
@@ -9,7 +9,7 @@ use std::process::exit;
 fn main() {
     println!("cargo::rerun-if-changed=build.rs");
     let (folder, made_by) = match (var("CARGO_CFG_TARGET_ARCH").as_deref(), var("CARGO_FEATURE_NATIVE")) {
-        (Ok("x86_64"), _) => ("staticlib", "rt staticlib boundary"),
+        (Ok("x86_64"), _) => ("staticlib", "tools/archive"),
         (_, Ok(_)) => ("native", "tools/native"),
         _ => return,
     };

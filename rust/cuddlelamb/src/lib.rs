@@ -61,8 +61,8 @@
 //! # Linking
 //!
 //! The library is linked, always: no environment variable is read, and no other process answers. On x86-64 it is the
-//! archive that `rt staticlib boundary` makes; elsewhere, with the feature `native`, the one that `tools/native` makes of
-//! the same module.
+//! archive that `tools/archive` makes; elsewhere, with the feature `native`, the one that `tools/native` makes of the same
+//! crate.
 
 #![deny(unsafe_code)]
 #![deny(missing_docs)]
