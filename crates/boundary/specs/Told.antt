@@ -6,7 +6,7 @@ use Rattle.boundary.specs.declared.PlanAnswer.{PlanAnswer}
 use Rattle.boundary.specs.declared.RoomsAnswer.{RoomsAnswer}
 use Rattle.boundary.specs.declared.TableAnswer.{TableAnswer}
 use Rattle.boundary.specs.declared.TextAnswer.{TextAnswer}
-use Rattle.rules.specs.Answers.{Answer}
+use Rattle.rules.specs.Answers.{Answer, ReadAnswer}
 use Rattle.rules.specs.Costs.{supplied_costs}
 use Rattle.rules.specs.Cycles.{allocation}
 use Rattle.rules.specs.Listing.{listing, listing_with}
@@ -24,6 +24,9 @@ text_says a = record { number = a.number; line = a.line; values = a.length ∷ [
 
 abbrev pub table_says : TableAnswer → Answer
 table_says a = record { number = a.number; line = a.line; values = [] }
+
+abbrev pub read_says : TableAnswer → ReadAnswer
+read_says a = record { answer = table_says a; table = a.table }
 
 abbrev pub cycles_says : CyclesAnswer → Answer
 cycles_says a = record { number = a.number; line = a.line; values = a.cycles ∷ [] }

@@ -3,8 +3,9 @@
 #![tactic(auto)]
 
 ghost use Rattle.std.specs.Prelude.{◌≡◌};
-ghost use Rattle.boundary.specs.Numbers.{text_answer, told_of};
 ghost use Rattle.boundary.specs.Told.{AllocateTold, CostsTold, ListTold, ListWithTold, PlanTold, ReadTold, RoomsTold, WriteTold};
+ghost use Rattle.boundary.specs.Told.{costs_says, cycles_says, plan_says, read_says, rooms_says, text_says};
+ghost use Rattle.rules.specs.Answers.{allocated_says, decision_says, panel_says, reading_says, supplied_says, written_says};
 ghost use Rattle.rules.specs.Plan.{taken_with};
 
 use costs::supplied;
@@ -12,8 +13,11 @@ use cycles::allocate;
 use listing::{list, list_with_budget};
 use planner::plan_into;
 use reader::read;
-use rules::{Allocated, Decision, Panel, Table, Verdict, Written, number_of};
+use rules::{Decision, Panel, Refused, Table};
 use writer::write;
+
+// The number of an answer that is none of the refusals.
+const NOT_REFUSED: u64 = 0;
 
 // A plan's job count, speed and energy.
 #[repr(C)]
@@ -26,6 +30,29 @@ pub struct PlanAnswer {
     pub energy: u64,
 }
 
+impl From<Result<Decision, Refused>> for PlanAnswer {
+    ghost from_gives = { λ told answer. plan_says answer ≡ decision_says told };
+
+    fn from(told: Result<Decision, Refused>) -> PlanAnswer {
+        match told {
+            Ok(decision) => PlanAnswer {
+                number: NOT_REFUSED,
+                line: 0,
+                count: decision.count as u64,
+                speed: decision.speed,
+                energy: decision.energy,
+            },
+            Err(refused) => PlanAnswer {
+                number: u64::from(refused.why),
+                line: refused.line,
+                count: 0,
+                speed: 0,
+                energy: 0,
+            },
+        }
+    }
+}
+
 // How many bytes were written.
 #[repr(C)]
 #[derive(Clone, Copy)]
@@ -33,6 +60,25 @@ pub struct TextAnswer {
     pub number: u64,
     pub line: u64,
     pub length: u64,
+}
+
+impl From<Result<usize, Refused>> for TextAnswer {
+    ghost from_gives = { λ told answer. text_says answer ≡ written_says told };
+
+    fn from(told: Result<usize, Refused>) -> TextAnswer {
+        match told {
+            Ok(length) => TextAnswer {
+                number: NOT_REFUSED,
+                line: 0,
+                length: length as u64,
+            },
+            Err(refused) => TextAnswer {
+                number: u64::from(refused.why),
+                line: refused.line,
+                length: 0,
+            },
+        }
+    }
 }
 
 // The table of a text.
@@ -44,6 +90,25 @@ pub struct TableAnswer {
     pub table: Table,
 }
 
+impl From<Result<Table, Refused>> for TableAnswer {
+    ghost from_gives = { λ told answer. read_says answer ≡ reading_says told };
+
+    fn from(told: Result<Table, Refused>) -> TableAnswer {
+        match told {
+            Ok(table) => TableAnswer {
+                number: NOT_REFUSED,
+                line: 0,
+                table,
+            },
+            Err(refused) => TableAnswer {
+                number: u64::from(refused.why),
+                line: refused.line,
+                table: Table::without_records(),
+            },
+        }
+    }
+}
+
 // The cycles allocated.
 #[repr(C)]
 #[derive(Clone, Copy)]
@@ -53,6 +118,25 @@ pub struct CyclesAnswer {
     pub cycles: u64,
 }
 
+impl From<Result<u64, Refused>> for CyclesAnswer {
+    ghost from_gives = { λ told answer. cycles_says answer ≡ allocated_says told };
+
+    fn from(told: Result<u64, Refused>) -> CyclesAnswer {
+        match told {
+            Ok(cycles) => CyclesAnswer {
+                number: NOT_REFUSED,
+                line: 0,
+                cycles,
+            },
+            Err(refused) => CyclesAnswer {
+                number: u64::from(refused.why),
+                line: refused.line,
+                cycles: 0,
+            },
+        }
+    }
+}
+
 // A cost model's seven costs.
 #[repr(C)]
 #[derive(Clone, Copy)]
@@ -60,6 +144,25 @@ pub struct CostsAnswer {
     pub number: u64,
     pub line: u64,
     pub costs: [u64; 7],
+}
+
+impl From<Result<[u64; 7], Refused>> for CostsAnswer {
+    ghost from_gives = { λ told answer. costs_says answer ≡ supplied_says told };
+
+    fn from(told: Result<[u64; 7], Refused>) -> CostsAnswer {
+        match told {
+            Ok(costs) => CostsAnswer {
+                number: NOT_REFUSED,
+                line: 0,
+                costs,
+            },
+            Err(refused) => CostsAnswer {
+                number: u64::from(refused.why),
+                line: refused.line,
+                costs: [0; 7],
+            },
+        }
+    }
 }
 
 // How many turns there were, and the room that is left at the end.
@@ -72,39 +175,24 @@ pub struct RoomsAnswer {
     pub room: u64,
 }
 
-// A verdict's number and line.
-#[derive(Clone, Copy)]
-struct Told {
-    number: u64,
-    line: u64,
-}
+impl From<Result<Panel, Refused>> for RoomsAnswer {
+    ghost from_gives = { λ told answer. rooms_says answer ≡ panel_says told };
 
-fn told_by(verdict: Verdict) -> Told
-    ensures { result ≡ told_of verdict }
-{
-    match verdict {
-        Verdict::Done => Told { number: 0, line: 0 },
-        Verdict::Refused(why, line) => Told {
-            number: number_of(why),
-            line: line,
-        },
-    }
-}
-
-fn text_answer(written: Written) -> TextAnswer
-    ensures { result ≡ text_answer written }
-{
-    match written {
-        Written::Length(length) => TextAnswer {
-            number: 0,
-            line: 0,
-            length: length as u64,
-        },
-        Written::Refused(why, line) => TextAnswer {
-            number: number_of(why),
-            line: line,
-            length: 0,
-        },
+    fn from(told: Result<Panel, Refused>) -> RoomsAnswer {
+        match told {
+            Ok(panel) => RoomsAnswer {
+                number: NOT_REFUSED,
+                line: 0,
+                turns: panel.turns as u64,
+                room: panel.room,
+            },
+            Err(refused) => RoomsAnswer {
+                number: u64::from(refused.why),
+                line: refused.line,
+                turns: 0,
+                room: 0,
+            },
+        }
     }
 }
 
@@ -117,35 +205,14 @@ pub extern "C" fn cuddlelamb_plan(
 ) -> PlanAnswer
     ensures { PlanTold (taken_with table budget) order.old fates.old result order.new fates.new }
 {
-    let decision = plan_into(table, budget, order, fates);
-    match decision {
-        Decision::Plan {
-            count,
-            speed,
-            energy,
-        } => PlanAnswer {
-            number: 0,
-            line: 0,
-            count: count as u64,
-            speed: speed,
-            energy: energy,
-        },
-        Decision::Refused(why, line) => PlanAnswer {
-            number: number_of(why),
-            line: line,
-            count: 0,
-            speed: 0,
-            energy: 0,
-        },
-    }
+    plan_into(table, budget, order, fates).into()
 }
 
 #[unsafe(no_mangle)]
 pub extern "C" fn cuddlelamb_list(text: &[u8], out: &mut [u8]) -> TextAnswer
     ensures { ListTold text.now out.old result out.new }
 {
-    let written = list(text, out);
-    text_answer(written)
+    list(text, out).into()
 }
 
 #[unsafe(no_mangle)]
@@ -156,65 +223,35 @@ pub extern "C" fn cuddlelamb_list_with_budget(
 ) -> TextAnswer
     ensures { ListWithTold text.now budget out.old result out.new }
 {
-    let written = list_with_budget(text, budget, out);
-    text_answer(written)
+    list_with_budget(text, budget, out).into()
 }
 
 #[unsafe(no_mangle)]
 pub extern "C" fn cuddlelamb_read(text: &[u8]) -> TableAnswer
     ensures { ReadTold text.now result }
 {
-    let reading = read(text);
-    let told = reading.verdict;
-    let verdict = told_by(told);
-    let table = reading.table;
-    TableAnswer {
-        number: verdict.number,
-        line: verdict.line,
-        table: table,
-    }
+    read(text).into()
 }
 
 #[unsafe(no_mangle)]
 pub extern "C" fn cuddlelamb_write(table: Table, out: &mut [u8]) -> TextAnswer
     ensures { WriteTold table out.old result out.new }
 {
-    let written = write(table, out);
-    text_answer(written)
+    write(table, out).into()
 }
 
 #[unsafe(no_mangle)]
 pub extern "C" fn cuddlelamb_allocate(mean: u64, variance: u64, assurance: u64) -> CyclesAnswer
     ensures { AllocateTold mean variance assurance result }
 {
-    let allocated = allocate(mean, variance, assurance);
-    match allocated {
-        Allocated::Cycles(cycles) => CyclesAnswer {
-            number: 0,
-            line: 0,
-            cycles: cycles,
-        },
-        Allocated::Refused(why, line) => CyclesAnswer {
-            number: number_of(why),
-            line: line,
-            cycles: 0,
-        },
-    }
+    allocate(mean, variance, assurance).into()
 }
 
 #[unsafe(no_mangle)]
 pub extern "C" fn cuddlelamb_costs(model: u64) -> CostsAnswer
     ensures { CostsTold model result }
 {
-    let answer = supplied(model);
-    let told = answer.verdict;
-    let verdict = told_by(told);
-    let costs = answer.costs;
-    CostsAnswer {
-        number: verdict.number,
-        line: verdict.line,
-        costs: costs,
-    }
+    supplied(model).into()
 }
 
 #[unsafe(no_mangle)]
@@ -226,19 +263,5 @@ pub extern "C" fn cuddlelamb_rooms(
 ) -> RoomsAnswer
     ensures { RoomsTold (taken_with table budget) turns.old rooms.old result turns.new rooms.new }
 {
-    let panel = planner::rooms(table, budget, turns, rooms);
-    match panel {
-        Panel::Told { turns, room } => RoomsAnswer {
-            number: 0,
-            line: 0,
-            turns: turns as u64,
-            room: room,
-        },
-        Panel::Refused(why, line) => RoomsAnswer {
-            number: number_of(why),
-            line: line,
-            turns: 0,
-            room: 0,
-        },
-    }
+    planner::rooms(table, budget, turns, rooms).into()
 }

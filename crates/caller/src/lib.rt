@@ -2,7 +2,7 @@
 #![tactic(auto)]
 
 ghost use Rattle.std.specs.Prelude.{OnOk};
-ghost use Rattle.caller.specs.Promises.{IsPrefixLen, SaysOf};
+ghost use Rattle.caller.specs.Promises.{FrontOf, IsPrefixLen, SaysOf, Taken, TakenOf};
 
 use std::io;
 use std::io::{Read, Write};
@@ -10,19 +10,42 @@ use std::io::{Read, Write};
 // Room for what std says of an error: no words of the system's are as long.
 const MOST_SAID: usize = 320;
 
+// Reads on after a short read, until the buffer is full, the input ends or a read fails; answers how many bytes that gave, and
+// why a read failed, if one did.
+fn read_on<R: Read>(from: &mut R, buffer: &mut [u8]) -> (usize, io::Result<()>)
+    ensures front { IsPrefixLen result.0 buffer.new }
+    ensures taken { OnOk result.1 (TakenOf (R.remaining from.old) (R.remaining from.new) buffer.new result.0) }
+{
+    let mut count = 0;
+    // a `while`: it grows by what a read gave
+    while count < buffer.len() {
+        let more = match from.read(&mut buffer[count..]) {
+            Ok(more) => more,
+            Err(why) => return (count, Err(why)),
+        };
+        if more == 0 {
+            return (count, Ok(()));
+        }
+        count += more;
+    }
+    (count, Ok(()))
+}
+
 // Reads until the buffer is full, the input ends or a read fails; answers how many bytes that gave.
 pub fn read_full(from: &mut impl Read, buffer: &mut [u8]) -> usize
     ensures { IsPrefixLen result buffer.new }
 {
-    let mut count = 0;
-    while count < buffer.len() {
-        let more = from.read(&mut buffer[count..]).unwrap_or(0);
-        if more == 0 {
-            return count;
-        }
-        count += more;
-    }
-    count
+    read_on(from, buffer).0
+}
+
+// The same of an input that is nothing where a read fails: what was read before it is then no answer.
+pub fn read_input<R: Read>(from: &mut R, buffer: &mut [u8]) -> io::Result<usize>
+    ensures front { FrontOf buffer.new result }
+    ensures taken { Taken (R.remaining from.old) (R.remaining from.new) buffer.new result }
+{
+    let (count, done) = read_on(from, buffer);
+    done?;
+    Ok(count)
 }
 
 // An error's words as the system has them, at the front of a buffer of zeros: without the number that std puts behind them.

@@ -2,42 +2,51 @@
 -- other resource stands what stood there. Where there is no H line there is nobody. Assumes nothing.
 use mathlib.Core.Bool.{true, false}
 use mathlib.Core.List.{List, [], ◌∷◌}
-use mathlib.Core.Logic.{◌⊎◌, inr, ⊎_elim}
-use mathlib.Core.Path.{◌≡◌, sym, ◌∙◌}
+use mathlib.Core.Logic.{inl, inr, ⊎_elim}
+use mathlib.Core.Path.{◌≡◌, refl, sym, ◌∙◌}
 use Prim.Native.Nat.{ℕ, ◌≤◌}
 use native.Mathlib.Omega.{arith}
 use borrow.Author.Tests.{eqb-false, eqb-true}
 use lib.Dec.{eqb}
-use lib.ListN.{get_or, get_or-replicate, length, replicate, set}
-use lib.Seq.{get_or-set_other, get_or-set_same}
+use lib.ListN.{get_or, get_or-replicate, length, replicate, set, take}
+use lib.Seq.{get_or-set_other, get_or-set_same, take_all}
 use Rattle.chains.proofs.Remaining.{which}
 use Rattle.chains.proofs.Walks.{job-at, nobody_at}
 use Rattle.chains.specs.Waits.{HolderAt, PlaceOrNobody, at_place, most_resources}
 use Rattle.columns.proofs.LookedUp.{found_job}
 use Rattle.columns.specs.Columns.{Column}
 use Rattle.columns.specs.LookUp.{StandsAt}
-use Rattle.columns.specs.declared.Found.{Found}
+use Rattle.std.specs.Prelude.{None, Some, Option as Answer}
 use Rattle.rules.specs.Lists.{Rising, find}
-use Rattle.rules.specs.Plan.{holder_in}
+use Rattle.rules.specs.Plan.{holder_in, same}
 use Rattle.rules.specs.Refusals.{is_holder}
 use Rattle.rules.specs.TableText.{most_holds, most_jobs}
 use Rattle.rules.specs.declared.Hold.{Hold}
 use Rattle.rules.specs.declared.Job.{Job}
 
--- the place found for the line's job is its place, and where nothing is found, `most_jobs` is nobody's
-module _ (js : List Job) (numbers : List ℕ) (rising : Rising (λ j. j.number) js)
-    (number_of_lem : Column (λ j. j.number) js numbers) (h : Hold) where
-  pub holder_there : (place : ℕ) → StandsAt numbers (length js) h.holder (Found.At place)
-      → at_place js place ≡ find (is_holder h) js
-  unfolding is_holder
-  holder_there place stands =
-      job-at js place stands.0 ∙ found_job h.holder js numbers rising number_of_lem (Found.At place) stands
+-- what a search of the numbers gives as a place: `most_jobs`, which is nobody's, where it finds none
+abbrev pub place_found : Answer ℕ → ℕ
+place_found (Some place) = place
+place_found None = most_jobs
 
-  pub holder_nowhere : length js ≤ most_jobs → StandsAt numbers (length js) h.holder Found.Nowhere
-      → at_place js most_jobs ≡ find (is_holder h) js
-  unfolding is_holder
-  holder_nowhere few stands =
-      nobody_at js most_jobs few ∙ found_job h.holder js numbers rising number_of_lem Found.Nowhere stands
+-- the place found for the line's job is its place, and where nothing is found, `most_jobs` is nobody's
+module _ (js : List Job) (numbers : List ℕ) (long : length js ≡ length numbers) (few : length js ≤ most_jobs) where
+  whole : take (length js) numbers ≡ numbers
+  whole = take_all (length js) numbers (omega arith)
+
+  pub holder_found : Rising (λ j. j.number) js → Column (λ j. j.number) js numbers → (h : Hold) (r : Answer ℕ)
+      → StandsAt numbers h.holder r → at_place js (place_found r) ≡ find (is_holder h) js
+  unfolding is_holder same
+  holder_found rising number_of_lem h (Some place) stands =
+      job-at js place (omega (arith, stands.0))
+      ∙ found_job h.holder js numbers rising number_of_lem (omega arith) (Some place) (rw whole stands)
+  holder_found rising number_of_lem h None stands =
+      nobody_at js most_jobs few
+      ∙ found_job h.holder js numbers rising number_of_lem (omega arith) None (rw whole stands)
+
+  pub found_or_nobody : (number : ℕ) (r : Answer ℕ) → StandsAt numbers number r → PlaceOrNobody js (place_found r)
+  found_or_nobody number (Some place) stands = inl (omega (arith, stands.0))
+  found_or_nobody number None stands = inr refl
 
 module _ (js : List Job) where
   pub no_line : length js ≤ most_jobs → HolderAt js [] (replicate most_resources most_jobs)

@@ -7,6 +7,7 @@ use Prim.Native.Nat.{ℕ, suc, ◌<◌}
 use native.Mathlib.Omega.{arith}
 use lib.Dec.{eqb}
 use lib.ListN.{get_or, length}
+use Rattle.columns.specs.declared.Columns.{Columns}
 use Rattle.columns.specs.Columns.{AllBelow, Column, jobs_at}
 use Rattle.laws.proofs.Numbered.{same_place}
 use Rattle.rules.specs.Lists.{Rising, all, any}
@@ -15,13 +16,13 @@ use Rattle.rules.specs.TableText.{Records, no_job}
 use Rattle.rules.specs.declared.Job.{Job}
 use Rattle.steps.proofs.Given.{weight_is}
 
-module _ (numbers worth cycles : List ℕ) where
+module _ (columns : Columns) where
   -- what the columns tell of the job at a place
   abbrev pub told_at : ℕ → Job
   told_at p = record {
-    number = get_or numbers p 0;
-    cycles = get_or cycles p 0;
-    worth = get_or worth p 0;
+    number = get_or columns.number p 0;
+    cycles = get_or columns.cycles p 0;
+    worth = get_or columns.worth p 0;
     critical = 0;
     termination = 0;
     request = 0;
@@ -54,8 +55,8 @@ module _ (numbers worth cycles : List ℕ) where
         rw e (stays_by met (eqb place p) (any (eqb place) ps) (all (rather_at t place) ps))
 
     module _ (js : List Job) (rising : Rising (λ j. j.number) js) (h : place < length js)
-        (number_of_lem : Column (λ j. j.number) js numbers) (worth_of : Column (λ j. j.worth) js worth)
-        (cycles-of : Column (λ j. j.cycles) js cycles) where
+        (number_of_lem : Column (λ j. j.number) js columns.number) (worth_of : Column (λ j. j.worth) js columns.worth)
+        (cycles-of : Column (λ j. j.cycles) js columns.cycles) where
       abbrev job : Job
       job = get_or js place no_job
 

@@ -1,13 +1,16 @@
 -- What the functions of steps 1 and 2 and the deadlines ask and promise: a job is known by its place, and read from the columns.
-use Rattle.std.specs.Prelude.{Bool, List, ◌≡◌, ℕ, ◌+◌, ◌*◌, ◌/◌, ◌≤◌, ◌<◌, get_or, length, take}
+use Rattle.std.specs.Prelude.{Bool, List, ◌≡◌, ℕ, ◌+◌, ◌*◌, ◌/◌, ◌≤◌, ◌<◌, get_or, length}
+use Rattle.std.specs.List.{All}
 use Rattle.std.proofs.Math.Option.{Option}
 use Rattle.chains.specs.Waits.{HolderAt, PlaceOrNobody, Remaining, Waits, at_place}
+use Rattle.chains.specs.declared.Weight.{Weight}
 use Rattle.columns.specs.Columns.{AtMost, Column, TermsOf}
+use Rattle.columns.specs.declared.Columns.{Columns}
 use Rattle.columns.specs.declared.Terms.{Terms}
 use Rattle.rules.specs.Lists.{Rising, find, keep}
 use Rattle.rules.specs.Plan.{awaited, goes_rather, leaves_ring, top_of, waits_for}
 use Rattle.rules.specs.Refusals.{is_holder}
-use Rattle.rules.specs.TableText.{Records, most_cycles, most_holds, most_jobs, most_mhz, most_time, most_worth, no_hold, no_job}
+use Rattle.rules.specs.TableText.{Records, most_cycles, most_holds, most_jobs, most_mhz, most_time, most_worth, no_job}
 use Rattle.rules.specs.declared.Hold.{Hold}
 use Rattle.rules.specs.declared.Job.{Job}
 use Rattle.steps.specs.Deadlines.{deadline_of}
@@ -24,21 +27,20 @@ pub record Comparable (clock mhz cycles termination : ℕ) : Type 0 where
   pub termination_small : termination ≤ most_time
 
 -- The place of the job of this number, or `most_jobs` where there is none.
-pub record PlaceOf (numbers : List ℕ) (count number r : ℕ) : Type 0 where
-  pub place : (js : List Job) → length js ≡ count → Rising (λ j. j.number) js → Column (λ j. j.number) js numbers
+pub record PlaceOf (numbers : List ℕ) (number r : ℕ) : Type 0 where
+  pub place : (js : List Job) → length js ≡ length numbers → Rising (λ j. j.number) js → Column (λ j. j.number) js numbers
       → (h : Hold) → h.holder ≡ number → at_place js r ≡ find (is_holder h) js
-  pub place_or_nobody : (js : List Job) → length js ≡ count → PlaceOrNobody js r
+  pub place_or_nobody : (js : List Job) → length js ≡ length numbers → PlaceOrNobody js r
 
--- Counts and resources in their ranges: each has a place.
-pub record Holdable (holds : List Hold) (hold-count job-count : ℕ) : Type 0 where
-  pub few_holds : hold-count ≤ most_holds
-  pub few_jobs : job-count ≤ most_jobs
-  pub resources_small : (i : ℕ) → i < hold-count → (get_or holds i no_hold).resource ≤ most_holds
+-- Jobs and resources in their ranges: each has a place.
+pub record Holdable (holds : List Hold) (numbers : List ℕ) : Type 0 where
+  pub few_jobs : length numbers ≤ most_jobs
+  pub resources_small : All (λ h. h.resource ≤ most_holds) holds
 
 -- The holders of the resources, by their places.
-pub record Holders (holds : List Hold) (numbers : List ℕ) (hold-count job-count : ℕ) (r : List ℕ) : Type 0 where
-  pub holders : (js : List Job) → length js ≡ job-count → Rising (λ j. j.number) js
-      → Column (λ j. j.number) js numbers → HolderAt js (take hold-count holds) r
+pub record Holders (holds : List Hold) (numbers : List ℕ) (r : List ℕ) : Type 0 where
+  pub holders : (js : List Job) → length js ≡ length numbers → Rising (λ j. j.number) js
+      → Column (λ j. j.number) js numbers → HolderAt js holds r
 
 -- The place of the job that the job at this place waits for among those that remain, or `most_jobs` for nobody.
 pub record WaitsFor (place : ℕ) (requests holder-at fates : List ℕ) (r : ℕ) : Type 0 where
@@ -48,26 +50,29 @@ pub record WaitsFor (place : ℕ) (requests holder-at fates : List ℕ) (r : ℕ
   pub place_or_nobody : (js : List Job) (holds : List Hold) → HolderAt js holds holder-at → PlaceOrNobody js r
 
 -- A job with this worth, these cycles and this number.
-pub record Weighs (j : Job) (worth cycles number : ℕ) : Type 0 where
-  pub worth_of : j.worth ≡ worth
-  pub cycles-of : j.cycles ≡ cycles
-  pub number_of : j.number ≡ number
+pub record Weighs (j : Job) (w : Weight) : Type 0 where
+  pub worth_of : j.worth ≡ w.worth
+  pub cycles-of : j.cycles ≡ w.cycles
+  pub number_of : j.number ≡ w.number
+
+-- what the columns tell of the job at a place
+abbrev pub weight_at : Columns → ℕ → Weight
+weight_at jobs p = record { worth = get_or jobs.worth p 0; cycles = get_or jobs.cycles p 0; number = get_or jobs.number p 0 }
 
 -- Worth and cycles in their ranges: no product of them wraps.
-pub record Weighable (worth cycles : ℕ) : Type 0 where
-  pub worth_small : worth ≤ most_worth
-  pub cycles_small : cycles ≤ most_cycles
+pub record Weighable (w : Weight) : Type 0 where
+  pub worth_small : w.worth ≤ most_worth
+  pub cycles_small : w.cycles ≤ most_cycles
 
--- Whether the job of the first three numbers goes rather than that of the others.
-pub record Rather (worth cycles number other_worth other_cycles other_number : ℕ) (r : Bool) : Type 0 where
-  pub rather : (t : Records) (j k : Job) → Weighs j worth cycles number → Weighs k other_worth other_cycles other_number
-      → r ≡ goes_rather t j k
+-- Whether the job of the first weight goes rather than that of the other.
+pub record Rather (w other : Weight) (r : Bool) : Type 0 where
+  pub rather : (t : Records) (j k : Job) → Weighs j w → Weighs k other → r ≡ goes_rather t j k
 
 -- Whether the job at this place is the one of its ring that is taken out.
-pub record LeavesRing (place : ℕ) (waits numbers worth cycles : List ℕ) (r : Bool) : Type 0 where
+pub record LeavesRing (place : ℕ) (waits : List ℕ) (jobs : Columns) (r : Bool) : Type 0 where
   pub leaves : (t : Records) (js : List Job) (next : Job → Option Job) → Rising (λ j. j.number) js
-      → Waits js next waits → place < length js → Column (λ j. j.number) js numbers
-      → Column (λ j. j.worth) js worth → Column (λ j. j.cycles) js cycles
+      → Waits js next waits → place < length js → Column (λ j. j.number) js jobs.number
+      → Column (λ j. j.worth) js jobs.worth → Column (λ j. j.cycles) js jobs.cycles
       → r ≡ leaves_ring t (awaited next (get_or js place no_job)) (get_or js place no_job)
 
 -- The latest deadline, in cycles.

@@ -17,8 +17,9 @@ use Rattle.rules.specs.TableText.{Record, most_holds, most_jobs, most_speeds}
 use Rattle.rules.specs.declared.Refusal.{Refusal}
 use Rattle.rules.specs.declared.Table.{Table}
 use Rattle.text.specs.Lines.{parsed_of}
-use Rattle.checks.specs.Left.{Comes, ComesNext, Letter, Room, behind_clock, holds_in, jobs_in, left, letter_left, record_at, speeds_in}
-use Rattle.checks.specs.declared.Next.{Next}
+use Rattle.checks.specs.Left.{Comes, ComesNext, InPlace, Letter, Room, behind_clock, holds_in, jobs_in, left, letter_left, record_at, speeds_in}
+use Rattle.std.specs.Prelude.{Some, Ok, Err}
+use Rattle.checks.specs.declared.Spot.{Spot}
 use Rattle.checks.proofs.Places.{none_left, record-at}
 
 -- one letter, n of whose records stand, and the rest behind it
@@ -36,22 +37,22 @@ module _ {A : Type 0} (l : Letter A) (n : ℕ) (rest : List Item) where
   letter_done k h = rw (none_left l.count l.all n (omega arith), le-ltb l.places l.count (omega arith))
 
   -- where it comes first, and there is more of it than stands: the record at the next place, or the first beyond the places
-  pub letter_next : (t : Table) (s : Standing) (next : Next) → ((n < l.places) × Comes t s (record_at l n) → ComesNext t s next)
-      → (n < l.places → Room s (record_at l n)) → left t s ≡ letter_left l n ++ rest
+  pub letter_next : (t : Table) (s : Standing) (next : Spot) → ((n < l.places) × Comes t s (record_at l n) → ComesNext t s (Ok (Some next)))
+      → (n < l.places → Room s (record_at l n)) → InPlace t s (record_at l n) → left t s ≡ letter_left l n ++ rest
       → left t (after_parsed s (parsed_of (record_at l n))) ≡ letter_left l (n + 1) ++ rest
-      → length l.all ≡ l.places → n < l.count → ComesNext t s (cond (ltb n l.places) next (Next.Bad l.why))
-  letter_next t s next stands room here behind whole h = go (ltb n l.places) refl
+      → length l.all ≡ l.places → n < l.count → ComesNext t s (cond (ltb n l.places) (Ok (Some next)) (Err l.why))
+  letter_next t s next stands room in_place here behind whole h = go (ltb n l.places) refl
     where
-      go : (b : Bool) → ltb n l.places ≡ b → ComesNext t s (cond b next (Next.Bad l.why))
+      go : (b : Bool) → ltb n l.places ≡ b → ComesNext t s (cond b (Ok (Some next)) (Err l.why))
       go true e =
           let k = ltb-true n l.places e in
-          stands (k, record { room = room k; first = here ∙ rw behind (record_first h (omega arith)) })
+          stands (k, record { room = room k; in_place = in_place; first = here ∙ rw behind (record_first h (omega arith)) })
       go false e = let k = ltb-false n l.places e in (rest, here ∙ beyond_first (omega arith) (omega arith))
 
 -- the T does not stand yet
 pub clock_comes : (t : Table) (s : Standing) → s.begun ≡ false → Comes t s (Record.T t.clock t.budget)
 unfolding left behind_clock
-clock_comes t s e = record { room = e; first = rw e }
+clock_comes t s e = record { room = e; in_place = tt; first = rw e }
 
 -- all F, all J stand
 abbrev pub SpeedsStand : Table → Standing → Type 0

@@ -8,7 +8,8 @@ use mathlib.Core.Path.{◌≡◌, refl, sym, ap, ◌∙◌}
 use Prim.Native.Nat.{ℕ, ◌+◌, ◌≤◌, ◌<◌}
 use native.Mathlib.Omega.{arith}
 use borrow.Author.Tests.{ltb-true}
-use lib.ListN.{length, replicate, set}
+use lib.ListN.{length, replicate, set, take}
+use Rattle.std.proofs.lemmas.List.{take_more}
 use lib.Seq.{get_or-append_seam, take-append-add, take-append_seam}
 use Rattle.columns.proofs.Stored.{Filled, nothing_filled, one_more_filled}
 use Rattle.grammar.proofs.Stopped.{Faultless, accepted_exactly}
@@ -25,7 +26,7 @@ use Rattle.rules.specs.declared.Refusal.{Refusal}
 use Rattle.rules.specs.declared.Table.{Table}
 use Rattle.text.specs.Lines.{item_of, parsed_of}
 use Rattle.text.specs.declared.Parsed.{Parsed}
-use Rattle.checks.specs.Left.{Comes, Few, Room, behind_clock, left, letter_left}
+use Rattle.checks.specs.Left.{Comes, Few, InPlace, Room, behind_clock, left, letter_left}
 
 -- no count is beyond its places, and the line is no further than the records go
 pub record Counted (s : Standing) (line : ℕ) : Type 0 where
@@ -33,12 +34,11 @@ pub record Counted (s : Standing) (line : ℕ) : Type 0 where
   pub at_clock : s.begun ≡ false → line ≤ 1
   pub behind_records : line ≤ 2 + s.speeds + s.jobs + s.holds
 
-pub record SoFar (t : Table) (numbers requests : List ℕ) (before : Standing) (line : ℕ) : Type 0 where
+pub record SoFar (t : Table) (before : Standing) (line : ℕ) : Type 0 where
   pub stands : Before
   pub state : before ≡ standing_of stands
   pub rising : Rising (λ (j : Job). j.number) stands.records.jobs
-  pub number : Filled (λ j. j.number) stands.records.jobs numbers
-  pub request : Filled (λ j. j.request) stands.records.jobs requests
+  pub jobs : take before.jobs t.jobs ≡ stands.records.jobs
   pub counted : Counted before line
   pub to_check : check t ≡ take_from line stands (left t before)
 
@@ -55,6 +55,10 @@ pub start_column : (f : Job → ℕ) → f no_job ≡ 0 → Filled f nothing.rec
 unfolding nothing
 start_column f e = nothing_filled f e
 
+pub start_jobs : (t : Table) → take 0 t.jobs ≡ nothing.records.jobs
+unfolding nothing
+start_jobs t = refl
+
 pub start_check : (t : Table) → check t ≡ take_from 1 nothing (left t none_standing)
 unfolding nothing check_up_to items_of_up_to speed_items job_items_up_to hold_items records_of left behind_clock letter_left
 start_check t = refl
@@ -62,13 +66,12 @@ start_check t = refl
 pub start_counted : Counted none_standing 1
 start_counted = record { few = omega arith; at_clock = λ e. omega arith; behind_records = omega arith }
 
-abbrev pub at_start : (t : Table) → SoFar t (replicate most_jobs 0) (replicate most_jobs 0) none_standing 1
+abbrev pub at_start : (t : Table) → SoFar t none_standing 1
 at_start t = record {
   stands = nothing;
   state = start_state;
   rising = start_rising;
-  number = start_column (λ j. j.number) refl;
-  request = start_column (λ j. j.request) refl;
+  jobs = start_jobs t;
   counted = start_counted;
   to_check = start_check t;
 }
@@ -107,20 +110,29 @@ rising_after b (Record.F f) ok rising = rising
 rising_after b (Record.J j) ok rising = rising_more no_job rising (ltb-true _ _ ok.rising)
 rising_after b (Record.H h) ok rising = rising
 
+-- the jobs are those in the first places
+jobs_after : (t : Table) (b : Before) (r : Record) → Room (standing_of b) r → InPlace t (standing_of b) r
+    → length t.jobs ≡ most_jobs → take (length b.records.jobs) t.jobs ≡ b.records.jobs
+    → take (after_parsed (standing_of b) (parsed_of r)).jobs t.jobs ≡ (added b.records r).jobs
+unfolding added
+jobs_after t b (Record.T clock budget) room place whole e = e
+jobs_after t b (Record.F f) room place whole e = e
+jobs_after t b (Record.J j) room place whole e =
+    take_more t.jobs (length b.records.jobs) no_job (omega arith) ∙ rw (e, ← place)
+jobs_after t b (Record.H h) room place whole e = e
+
 -- a J's field is stored in the first free place of its column
 abbrev pub stored_in : (Job → ℕ) → Standing → Parsed → List ℕ → List ℕ
 stored_in f s (Parsed.Clock clock budget) c = c
 stored_in f s (Parsed.Speed g) c = c
 stored_in f s (Parsed.Job j) c = set c s.jobs (f j)
 stored_in f s (Parsed.Hold h) c = c
-stored_in f s (Parsed.Refused why line) c = c
 
 pub not_stored : (f : Job → ℕ) (s : Standing) (p : Parsed) (c : List ℕ) → ((j : Job) → p ≡ Parsed.Job j → ⊥) → stored_in f s p c ≡ c
 not_stored f s (Parsed.Clock clock budget) c no-job = refl
 not_stored f s (Parsed.Speed g) c no-job = refl
 not_stored f s (Parsed.Job j) c no-job = absurd (no-job j refl)
 not_stored f s (Parsed.Hold h) c no-job = refl
-not_stored f s (Parsed.Refused why line) c no-job = refl
 
 one_more_column : (f : Job → ℕ) (js : List Job) (j : Job) (c : List ℕ) → length js < most_jobs → Filled f js c
     → Filled f (js ++ j ∷ []) (set c (length js) (f j))
@@ -136,14 +148,9 @@ column_after f b (Record.F g) c room filled = filled
 column_after f b (Record.J j) c room filled = one_more_column f b.records.jobs j c room filled
 column_after f b (Record.H h) c room filled = filled
 
-module _ {t : Table} {numbers requests : List ℕ} {before : Standing} {line : ℕ} (so_far : SoFar t numbers requests before line) where
-  pub noted : Noted so_far.stands before numbers requests
-  noted = record {
-    state = so_far.state;
-    rising = so_far.rising;
-    number = so_far.number.column;
-    request = so_far.request.column;
-  }
+module _ {t : Table} {before : Standing} {line : ℕ} (so_far : SoFar t before line) where
+  pub noted : Noted so_far.stands before (take before.jobs t.jobs)
+  noted = record { state = so_far.state; rising = so_far.rising; same_jobs = so_far.jobs }
 
   -- what comes next is refused, or nothing comes
   pub bad_next : (why : Refusal) (rest : List Item) → left t before ≡ bad why ∷ rest → check t ≡ refused_at why line
@@ -181,18 +188,19 @@ module _ {t : Table} {numbers requests : List ℕ} {before : Standing} {line : �
       pub state_with_it : after_parsed before (parsed_of r) ≡ standing_of (with_more so_far.stands r)
       state_with_it = rw so_far.state (state_after so_far.stands r)
 
-      abbrev pub with_it : SoFar t (stored_in (λ j. j.number) before (parsed_of r) numbers)
-          (stored_in (λ j. j.request) before (parsed_of r) requests) (after_parsed before (parsed_of r)) (line + 1)
-      with_it = record {
+      pub jobs_with_it : length t.jobs ≡ most_jobs
+          → take (after_parsed before (parsed_of r)).jobs t.jobs ≡ (added so_far.stands.records r).jobs
+      jobs_with_it whole =
+          rw so_far.state
+          (jobs_after t so_far.stands r (rw so_far.state at comes.room) (rw so_far.state at comes.in_place) whole
+          (rw so_far.state at so_far.jobs))
+
+      abbrev pub with_it : length t.jobs ≡ most_jobs → SoFar t (after_parsed before (parsed_of r)) (line + 1)
+      with_it whole = record {
         stands = with_more so_far.stands r;
         state = state_with_it;
         rising = rising_with_it;
-        number = stored (λ j. j.number) numbers so_far.number;
-        request = stored (λ j. j.request) requests so_far.request;
+        jobs = jobs_with_it whole;
         counted = counted_after before r line comes.room so_far.counted;
         to_check = checked_with_it;
       }
-
-  pub one_more : (r : Record) (p : Parsed) → p ≡ parsed_of r → Comes t before r → fault_of so_far.stands r ≡ none
-      → SoFar t (stored_in (λ j. j.number) before p numbers) (stored_in (λ j. j.request) before p requests) (after_parsed before p) (line + 1)
-  one_more r p e comes fault = rw e (with_it r comes fault)

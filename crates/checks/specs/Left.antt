@@ -1,5 +1,5 @@
 -- What is left of a table's items behind the records that a state stands for, and what comes first of it.
-use Rattle.std.specs.Prelude.{false, cond, List, [], ◌∷◌, ◌++◌, map, ◌≡◌, ℕ, ◌≤◌, ◌<◌, eqb, length, drop, get_or, take}
+use Rattle.std.specs.Prelude.{Option, Some, None, Result, Ok, Err, false, cond, List, [], ◌∷◌, ◌++◌, map, ◌≡◌, ℕ, ◌≤◌, ◌<◌, eqb, length, drop, get_or, take}
 use Rattle.lines.specs.Step.{after_parsed}
 use Rattle.records.specs.declared.Standing.{Standing}
 use Rattle.rules.specs.Refusals.{Item, bad, beyond, one}
@@ -10,7 +10,7 @@ use Rattle.rules.specs.declared.Refusal.{Refusal}
 use Rattle.rules.specs.declared.Speed.{Speed}
 use Rattle.rules.specs.declared.Table.{Table}
 use Rattle.text.specs.Lines.{parsed_of}
-use Rattle.checks.specs.declared.Next.{Next}
+use Rattle.checks.specs.declared.Spot.{Spot}
 
 -- One letter's part of a table: its record, the one of zeros, what the places hold and how many they are, the count, and the
 -- refusal of the first record beyond the places.
@@ -60,28 +60,30 @@ Room s (Record.F f) = s.speeds < most_speeds
 Room s (Record.J j) = s.jobs < most_jobs
 Room s (Record.H h) = s.holds < most_holds
 
+-- a J is the one in the next place
+abbrev pub InPlace : Table → Standing → Record → Type 0
+InPlace t s (Record.T clock budget) = Unit {0}
+InPlace t s (Record.F f) = Unit {0}
+InPlace t s (Record.J j) = j ≡ get_or t.jobs s.jobs no_job
+InPlace t s (Record.H h) = Unit {0}
+
 -- a record comes first of what is left, and then what is left behind it
 pub record Comes (t : Table) (s : Standing) (r : Record) : Type 0 where
   pub room : Room s r
+  pub in_place : InPlace t s r
   pub first : left t s ≡ one r ∷ left t (after_parsed s (parsed_of r))
 
 -- What comes next of a table.
-abbrev pub ComesNext : Table → Standing → Next → Type 0
-ComesNext t s Next.Clock = Comes t s (Record.T t.clock t.budget)
-ComesNext t s (Next.Speed n) = (n < most_speeds) × Comes t s (record_at (speeds_in t) n)
-ComesNext t s (Next.Job n) = (n < most_jobs) × Comes t s (record_at (jobs_in t) n)
-ComesNext t s (Next.Hold n) = (n < most_holds) × Comes t s (record_at (holds_in t) n)
-ComesNext t s (Next.Bad why) = (rest : List Item) × (left t s ≡ bad why ∷ rest)
-ComesNext t s Next.End = (left t s ≡ []) × (1 ≤ s.speeds)
+abbrev pub ComesNext : Table → Standing → Result (Option Spot) Refusal → Type 0
+ComesNext t s (Ok (Some Spot.Clock)) = Comes t s (Record.T t.clock t.budget)
+ComesNext t s (Ok (Some (Spot.Speed n))) = (n < most_speeds) × Comes t s (record_at (speeds_in t) n)
+ComesNext t s (Ok (Some (Spot.Job n))) = (n < most_jobs) × Comes t s (record_at (jobs_in t) n)
+ComesNext t s (Ok (Some (Spot.Hold n))) = (n < most_holds) × Comes t s (record_at (holds_in t) n)
+ComesNext t s (Ok None) = (left t s ≡ []) × (1 ≤ s.speeds)
+ComesNext t s (Err why) = (rest : List Item) × (left t s ≡ bad why ∷ rest)
 
 -- a table with all its places
 pub record Whole (t : Table) : Type 0 where
   pub speeds : length t.speeds ≡ most_speeds
   pub jobs : length t.jobs ≡ most_jobs
   pub holds : length t.holds ≡ most_holds
-
--- so it is in every table of these counts
-abbrev pub NextIs : Standing → ℕ → ℕ → ℕ → Next → Type 0
-NextIs s speed-count job-count hold-count next =
-    (t : Table) → Whole t → t.speed_count ≡ speed-count → t.job_count ≡ job-count → t.hold_count ≡ hold-count
-    → ComesNext t s next

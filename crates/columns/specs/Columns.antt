@@ -1,33 +1,36 @@
 -- How the code's columns, places and keys stand for the rules' lists: a job is known by its place in the table, and
 -- each of its fields stands at that place of the field's column.
-use Rattle.std.specs.Prelude.{List, map, ◌≡◌, ℕ, ◌≤◌, ◌<◌, get_or, length}
+use Rattle.std.specs.Prelude.{List, map, ◌≡◌, ℕ, ◌≤◌, ◌<◌, get_or, length, replicate, set}
+pub use Rattle.columns.specs.declared.Columns.{Columns}
 use Rattle.columns.specs.declared.Terms.{Terms}
 use Rattle.rules.specs.Plan.{Entry, top_of}
-use Rattle.rules.specs.TableText.{Records, no_job}
+use Rattle.rules.specs.TableText.{Records, most_jobs, no_job}
 use Rattle.rules.specs.declared.Job.{Job}
-
--- The jobs of a table, a column for each field.
-pub record Columns : Type 0 where
-  pub number : List ℕ
-  pub cycles : List ℕ
-  pub worth : List ℕ
-  pub critical : List ℕ
-  pub termination : List ℕ
-  pub request : List ℕ
 
 -- at each place the field of the job there, and 0 beyond the jobs
 abbrev pub Column : (Job → ℕ) → List Job → List ℕ → Type 0
 Column f js c = (i : ℕ) → get_or c i 0 ≡ f (get_or js i no_job)
 
--- columns that are lent one by one, side by side
-abbrev pub besides : List ℕ → List ℕ → List ℕ → List ℕ → List ℕ → List ℕ → Columns
-besides number cycles worth critical termination request = record {
-  number = number;
-  cycles = cycles;
-  worth = worth;
-  critical = critical;
-  termination = termination;
-  request = request;
+-- columns of zeros
+abbrev pub no_jobs : Columns
+no_jobs = record {
+  number = replicate most_jobs 0;
+  cycles = replicate most_jobs 0;
+  worth = replicate most_jobs 0;
+  critical = replicate most_jobs 0;
+  termination = replicate most_jobs 0;
+  request = replicate most_jobs 0;
+}
+
+-- a job's fields at a place
+abbrev pub with_job : Columns → ℕ → Job → Columns
+with_job c place j = record {
+  number = set c.number place j.number;
+  cycles = set c.cycles place j.cycles;
+  worth = set c.worth place j.worth;
+  critical = set c.critical place j.critical;
+  termination = set c.termination place j.termination;
+  request = set c.request place j.request;
 }
 
 -- a column for each field of the jobs

@@ -1,13 +1,11 @@
 -- The job of a number, by its place: where in a column of numbers it stands.
-use Rattle.std.specs.Prelude.{List, ◌≡◌, ℕ, ◌<◌, get_or}
-use Rattle.columns.specs.declared.Found.{Found}
+use Rattle.std.specs.Prelude.{List, Option, Some, None, ◌≡◌, ℕ, ◌<◌, get_or, length}
 
--- the first count numbers rise
-abbrev pub RisesTo : ℕ → List ℕ → Type 0
-RisesTo count numbers = (p q : ℕ) → p < q → q < count → get_or numbers p 0 < get_or numbers q 0
+-- the numbers rise
+abbrev pub Rises : List ℕ → Type 0
+Rises numbers = (p q : ℕ) → p < q → q < length numbers → get_or numbers p 0 < get_or numbers q 0
 
--- The number stands at this place, among the first count; or, where these rise, at none of their places.
-abbrev pub StandsAt : List ℕ → ℕ → ℕ → Found → Type 0
-StandsAt numbers count number (Found.At place) = (place < count) × (get_or numbers place 0 ≡ number)
-StandsAt numbers count number Found.Nowhere =
-    RisesTo count numbers → (p : ℕ) → p < count → get_or numbers p 0 ≡ number → ⊥
+-- The number stands at this place; or, where the numbers rise, at none.
+abbrev pub StandsAt : List ℕ → ℕ → Option ℕ → Type 0
+StandsAt numbers number (Some place) = (place < length numbers) × (get_or numbers place 0 ≡ number)
+StandsAt numbers number None = Rises numbers → (p : ℕ) → p < length numbers → get_or numbers p 0 ≡ number → ⊥

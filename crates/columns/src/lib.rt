@@ -2,11 +2,12 @@
 // its fields there.
 #![tactic(auto)]
 
-ghost use Rattle.std.specs.Prelude.{◌≤◌};
+ghost use Rattle.std.specs.Prelude.{◌≡◌, ◌<◌};
+ghost use Rattle.columns.specs.Columns.{no_jobs, with_job};
 ghost use Rattle.columns.specs.LookUp.{StandsAt};
 ghost use Rattle.rules.specs.TableText.{most_jobs};
 
-use rules::MOST_JOBS;
+use rules::{Job, MOST_JOBS};
 
 // What every step reads beside the jobs: the T line, the top speed and its cost, and how many jobs there are.
 #[derive(Clone, Copy)]
@@ -18,32 +19,50 @@ pub struct Terms {
     pub job_count: usize,
 }
 
-// The job of a number: its place in the table, at which each column holds a field of it, or that there is none.
+// The jobs of a table, a column for each field: at each place the field of the job there. (Columns and no
+// jobs side by side: a loop over the jobs reads one or two fields of each.)
 #[derive(Clone, Copy)]
-pub enum Found {
-    At(usize),
-    Nowhere,
+pub struct Columns {
+    pub number: [u64; MOST_JOBS],
+    pub cycles: [u64; MOST_JOBS],
+    pub worth: [u64; MOST_JOBS],
+    pub critical: [u64; MOST_JOBS],
+    pub termination: [u64; MOST_JOBS],
+    pub request: [u64; MOST_JOBS],
 }
 
-// The place of the job of a number among the first count. The numbers of a table's jobs rise, so the search halves what is
-// left: the number is not in front of `low`, and neither at `high` nor behind it.
-pub fn look_up(numbers: &[u64; MOST_JOBS], count: usize, number: u64) -> Found
-    requires { count ≤ most_jobs }
-    ensures { StandsAt numbers.now count number result }
-{
-    let mut low = 0;
-    let mut high = count;
-    while low < high {
-        let middle = low + (high - low) / 2;
-        let other = numbers[middle];
-        if other == number {
-            return Found::At(middle);
-        }
-        if other < number {
-            low = middle + 1;
-        } else {
-            high = middle;
+impl Columns {
+    // Columns of zeros, to be filled.
+    pub fn new() -> Columns
+        ensures { result ≡ no_jobs }
+    {
+        Columns {
+            number: [0; MOST_JOBS],
+            cycles: [0; MOST_JOBS],
+            worth: [0; MOST_JOBS],
+            critical: [0; MOST_JOBS],
+            termination: [0; MOST_JOBS],
+            request: [0; MOST_JOBS],
         }
     }
-    Found::Nowhere
+
+    // A job's fields, each put at its place in the column.
+    pub fn put(&mut self, place: usize, job: Job)
+        requires { place < most_jobs }
+        ensures { self.new ≡ with_job self.old place job }
+    {
+        self.number[place] = job.number;
+        self.cycles[place] = job.cycles;
+        self.worth[place] = job.worth;
+        self.critical[place] = job.critical;
+        self.termination[place] = job.termination;
+        self.request[place] = job.request;
+    }
+}
+
+// The place of the job of a number in a column of numbers. Those of a table's jobs rise, so the search halves what is left.
+pub fn look_up(numbers: &[u64], number: u64) -> Option<usize>
+    ensures { StandsAt numbers.now number result }
+{
+    numbers.binary_search(&number).ok()
 }

@@ -2,13 +2,14 @@
 -- by what it says. Assumes nothing.
 use mathlib.Core.Path.{◌≡◌, sym, ◌∙◌}
 use Prim.Native.Nat.{ℕ}
+use Rattle.std.specs.Prelude.{List, Result}
 use Rattle.costs.proofs.supplied.Reads.{Learnt}
 use Rattle.laws.proofs.Unique.{supplied_unique}
-use Rattle.rules.specs.declared.Supplied.{Supplied}
+use Rattle.rules.specs.declared.Refused.{Refused}
 
 -- what the promise tells a caller of an answer r
-abbrev pub Promised : ℕ → Supplied → Type 0
+abbrev pub Promised : ℕ → Result (List ℕ) Refused → Type 0
 Promised model r = Learnt _ (model, tt) r (model, tt)
 
-pub unique : (model : ℕ) (r s : Supplied) → Promised model r → Promised model s → r ≡ s
+pub unique : (model : ℕ) (r s : Result (List ℕ) Refused) → Promised model r → Promised model s → r ≡ s
 unique model r s p q = supplied_unique r s (p ∙ sym q)

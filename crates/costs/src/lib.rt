@@ -5,7 +5,7 @@ ghost use Rattle.std.specs.Prelude.{◌≡◌};
 ghost use Rattle.rules.specs.Answers.{supplied_says};
 ghost use Rattle.rules.specs.Costs.{supplied_costs};
 
-use rules::{Refusal, Supplied, Verdict};
+use rules::{Refusal, Refused};
 
 // A row for each model, in the order of the speeds.
 const COSTS: [[u64; 7]; 3] = [
@@ -15,18 +15,11 @@ const COSTS: [[u64; 7]; 3] = [
 ];
 
 // The costs of model 1, 2 or 3; any other is refused.
-pub fn supplied(model: u64) -> Supplied
+pub fn supplied(model: u64) -> Result<[u64; 7], Refused>
     ensures { supplied_says result ≡ supplied_costs model }
 {
     if model < 1 || 3 < model {
-        return Supplied {
-            verdict: Verdict::Refused(Refusal::Model, 0),
-            costs: [0; 7],
-        };
+        return Err(Refusal::Model.at(0));
     }
-    let costs = COSTS[(model - 1) as usize];
-    Supplied {
-        verdict: Verdict::Done,
-        costs: costs,
-    }
+    Ok(COSTS[(model - 1) as usize])
 }

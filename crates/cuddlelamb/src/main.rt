@@ -17,14 +17,13 @@
 ghost use Rattle.std.specs.Prelude.{◌≡◌, OnOk};
 ghost use Rattle.std.specs.Bool.{OnTrue};
 ghost use Rattle.std.specs.Io.KnownBytes.{Appends};
-ghost use Rattle.cuddlelamb.specs.Program.{BudgetIn, FrontOf, ListedAs, PrintedOf, Taken, lines_asked};
-ghost use Rattle.cuddlelamb.specs.declared.Asked.{Asked};
-ghost use Rattle.listing.specs.Listed.{wrote};
+ghost use Rattle.beside.specs.Listed.{wrote};
+ghost use Rattle.cuddlelamb.specs.Program.{BudgetIn, ListedAs, PrintedOf, lines_asked};
 ghost use Rattle.rules.specs.Refusals.{written};
 
-use caller::fail;
+use caller::{fail, read_input};
 use records::budget_in_range;
-use rules::{Field, Verdict, Written};
+use rules::Refused;
 use std::env::{Env, FillError};
 use std::io;
 use std::io::{Read, Write};
@@ -38,176 +37,92 @@ const MOST_PRINTED: usize = 1719;
 // Room for a word of the command line. No number, and neither option, is as long.
 const WORD: usize = 32;
 
-// The options, with a byte 0 or more behind them, as a word's buffer has them.
-const OPTION_BYTES: usize = 9;
-
-const BUDGET: [u8; OPTION_BYTES] = [b'-', b'-', b'b', b'u', b'd', b'g', b'e', b't', 0];
-
-const ROOMS: [u8; OPTION_BYTES] = [b'-', b'-', b'r', b'o', b'o', b'm', b's', 0, 0];
-
-// The budget that is asked for: the table's own, another, or none that can be understood.
+// Words of the command line that do not ask for anything that can be understood.
 #[derive(Clone, Copy)]
-enum Asked {
-    Own,
-    Beside(u64),
-    Unknown,
-}
+struct Unknown;
 
 // The budget that a word is, where it is a number as the table text has them. The word is the front of its buffer, and a byte 0,
 // which no word has, stands behind it.
-fn budget_in(buffer: &[u8]) -> Asked
+fn budget_in(buffer: &[u8]) -> Option<u64>
     ensures { BudgetIn buffer.now result }
 {
     let start = Cursor { at: 0, line: 1 };
-    let taken = start.number(buffer, 0);
-    let field = taken.field;
-    match field {
-        Field::Number(budget) => Asked::Beside(budget),
-        Field::Refused(_, _) => Asked::Unknown,
-    }
-}
-
-// Whether a word is the option that is wanted.
-fn is_option(buffer: &[u8; WORD], wanted: [u8; OPTION_BYTES]) -> bool {
-    let mut i = 0;
-    while i < OPTION_BYTES {
-        if buffer[i] != wanted[i] {
-            return false;
-        }
-        i += 1;
-    }
-    true
-}
-
-// How many words the command line has, the program's name among them.
-fn count_words(words: &impl Env) -> usize {
-    for place in 0..usize::MAX {
-        let mut front = [0u8; 1];
-        if let Err(FillError::NotPresent) = words.arg(place, &mut front) {
-            return place;
-        }
-    }
-    usize::MAX
+    start.number(buffer, 0).field.ok()
 }
 
 // Whether the word at this place of the command line is the option that is wanted.
-fn option_at(words: &impl Env, place: usize, wanted: [u8; OPTION_BYTES]) -> bool {
+fn option_at(words: &impl Env, place: usize, wanted: &[u8]) -> bool {
     let mut word = [0u8; WORD];
-    if words.arg(place, &mut word).is_err() {
-        return false;
+    match words.arg(place, &mut word) {
+        Ok(count) => &word[..count] == wanted,
+        Err(_) => false,
     }
-    is_option(&word, wanted)
 }
 
-// What the words of the command line ask for, from this place on.
-fn budget_asked(words: &impl Env, first: usize) -> Asked {
-    let count = count_words(words);
-    if count <= first {
-        return Asked::Own;
+// Whether the command line ends before this place.
+fn is_missing(words: &impl Env, place: usize) -> bool {
+    let mut front = [0u8; 1];
+    matches!(words.arg(place, &mut front), Err(FillError::NotPresent))
+}
+
+// The budget that the words behind these ask for beside the table's own, if they do.
+fn budget_asked(words: &impl Env, rooms: bool) -> Result<Option<u64>, Unknown> {
+    let first = if rooms { 2 } else { 1 };
+    if is_missing(words, first) {
+        return Ok(None);
     }
-    if count - first != 2 || !option_at(words, first, BUDGET) {
-        return Asked::Unknown;
+    if !is_missing(words, first + 2) || !option_at(words, first, b"--budget") {
+        return Err(Unknown);
     }
     let mut word = [0u8; WORD];
     if words.arg(first + 1, &mut word).is_err() {
-        return Asked::Unknown;
+        return Err(Unknown);
     }
-    budget_in(&word)
-}
-
-// The place of the words that ask for a budget: behind the program's name, and behind --rooms.
-fn budget_place(rooms: bool) -> usize {
-    if rooms {
-        return 2;
-    }
-    1
-}
-
-// How many bytes the input had, or why a read failed.
-#[derive(Clone, Copy)]
-enum Input {
-    Bytes(usize),
-    Failed(io::Error),
-}
-
-// Reads on after a short read, until the buffer is full or the input ends.
-fn read_input<R: Read>(from: &mut R, buffer: &mut [u8]) -> Input
-    ensures front { FrontOf buffer.new result }
-    ensures taken { Taken (R.remaining from.old) (R.remaining from.new) buffer.new result }
-{
-    let mut count = 0;
-    while count < buffer.len() {
-        let more = match from.read(&mut buffer[count..]) {
-            Ok(more) => more,
-            Err(why) => return Input::Failed(why),
-        };
-        if more == 0 {
-            return Input::Bytes(count);
-        }
-        count += more;
-    }
-    Input::Bytes(count)
-}
-
-// The lines of the rooms, or the listing, with the text's own budget.
-fn list_own(text: &[u8], rooms: bool, out: &mut [u8]) -> Written
-    ensures { wrote result out.new ≡ written (lines_asked text.now rooms Asked.Own) out.old }
-{
-    if rooms {
-        return roomlines::list_rooms(text, out);
-    }
-    listing::list(text, out)
-}
-
-// The same with a budget beside the text.
-fn list_beside(text: &[u8], rooms: bool, budget: u64, out: &mut [u8]) -> Written
-    ensures { wrote result out.new ≡ written (lines_asked text.now rooms (Asked.Beside budget)) out.old }
-{
-    if rooms {
-        return roomlines::list_rooms_with_budget(text, budget, out);
-    }
-    listing::list_with_budget(text, budget, out)
+    budget_in(&word).map(Some).ok_or(Unknown)
 }
 
 // Says that the budget beside is the one that is refused, where it is, and not the text.
 fn tell_budget(text: &[u8], budget: u64, say: &mut impl Write) {
-    if budget_in_range(budget) {
-        return;
-    }
-    let reading = reader::read(text);
-    let verdict = reading.verdict;
-    if let Verdict::Done = verdict {
+    if !budget_in_range(budget) && reader::read(text).is_ok() {
         let _ = say.write_all(b"the budget beside the table is above 1000000000000000\n");
     }
 }
 
-// The lines that are asked for; where nothing is understood, none.
-fn list_asked(text: &[u8], rooms: bool, asked: Asked, out: &mut [u8]) -> Written
+// The lines that are asked for: of the rooms or the listing, with the text's own budget or with one beside it.
+#[tactic(auto, unfolding(rules::specs::Listing::listing, rules::specs::Listing::listing_with))]
+fn list_asked(
+    text: &[u8],
+    rooms: bool,
+    asked: Option<u64>,
+    out: &mut [u8],
+) -> Result<usize, Refused>
     ensures { wrote result out.new ≡ written (lines_asked text.now rooms asked) out.old }
 {
-    match asked {
-        Asked::Beside(budget) => list_beside(text, rooms, budget, out),
-        Asked::Own => list_own(text, rooms, out),
-        Asked::Unknown => Written::Length(0),
+    match (rooms, asked) {
+        (true, None) => roomlines::list_rooms(text, out),
+        (true, Some(budget)) => roomlines::list_rooms_with_budget(text, budget, out),
+        (false, None) => listing::list(text, out),
+        (false, Some(budget)) => listing::list_with_budget(text, budget, out),
     }
 }
 
-// The same at the front of the buffer, and their length.
-fn list_whole(text: &[u8], rooms: bool, asked: Asked, buffer: &mut [u8; MOST_PRINTED]) -> usize
+// The same at the front of the buffer, and their length. They are never refused: there is room for all lines.
+fn list_whole(
+    text: &[u8],
+    rooms: bool,
+    asked: Option<u64>,
+    buffer: &mut [u8; MOST_PRINTED],
+) -> usize
     ensures { ListedAs (lines_asked text.now rooms asked) buffer.new result }
 {
-    match list_asked(text, rooms, asked, buffer) {
-        Written::Length(count) => count,
-        // never: there is room for all lines
-        Written::Refused(_, _) => 0,
-    }
+    list_asked(text, rooms, asked, buffer).unwrap_or(0)
 }
 
 // Only the rooms of a table in which no job has a turn have no line.
 fn print_asked<W: Write>(
     text: &[u8],
     rooms: bool,
-    asked: Asked,
+    asked: Option<u64>,
     out: &mut W,
     say: &mut impl Write,
 ) -> io::Result<()>
@@ -225,7 +140,7 @@ fn print_asked<W: Write>(
 // Reads a table and prints the lines that are asked for, and whether it did. What goes wrong is said.
 fn plan_input<R: Read, W: Write>(
     rooms: bool,
-    asked: Asked,
+    asked: Option<u64>,
     from: &mut R,
     out: &mut W,
     say: &mut impl Write,
@@ -234,8 +149,8 @@ fn plan_input<R: Read, W: Write>(
 {
     let mut text = [0u8; MOST_READ];
     let read = match read_input(from, &mut text) {
-        Input::Bytes(read) => read,
-        Input::Failed(why) => {
+        Ok(read) => read,
+        Err(why) => {
             let _ = fail(say, "standard input", why);
             return false;
         }
@@ -244,19 +159,21 @@ fn plan_input<R: Read, W: Write>(
     if let Err(why) = printed {
         let _ = fail(say, "standard output", why);
     }
-    if let Asked::Beside(budget) = asked {
+    if let Some(budget) = asked {
         tell_budget(&text[..read], budget, say);
     }
     printed.is_ok()
 }
 
 fn main(rt: HostRuntime) {
-    let rooms = option_at(&rt, 1, ROOMS);
-    let asked = budget_asked(&rt, budget_place(rooms));
+    let rooms = option_at(&rt, 1, b"--rooms");
     let mut say = rt.stderr();
-    if let Asked::Unknown = asked {
-        let _ = say.write_all(b"usage: cuddlelamb [--rooms] [--budget N] < TABLE\n");
-        return;
+    match budget_asked(&rt, rooms) {
+        Ok(asked) => {
+            plan_input(rooms, asked, &mut rt.stdin(), &mut rt.stdout(), &mut say);
+        }
+        Err(Unknown) => {
+            let _ = say.write_all(b"usage: cuddlelamb [--rooms] [--budget N] < TABLE\n");
+        }
     }
-    plan_input(rooms, asked, &mut rt.stdin(), &mut rt.stdout(), &mut say);
 }

@@ -6,7 +6,7 @@ ghost use Rattle.rules.specs.Answers.{allocated_says, good};
 ghost use Rattle.rules.specs.Cycles.{allocation, asked_in_range, enough};
 ghost use Rattle.rules.specs.TableText.{most_cycles};
 
-use rules::{Allocated, MOST_CYCLES, Refusal};
+use rules::{MOST_CYCLES, Refusal, Refused};
 
 const MOST_VARIANCE: u64 = 1000000000000;
 
@@ -37,6 +37,7 @@ fn least(mean: u64, variance: u64, assurance: u64) -> u64
 {
     let mut low = mean;
     let mut high = MOST_CYCLES;
+    // a `while`: what is halved are numbers, and no slice that the library could search
     while low < high {
         let middle = low + (high - low) / 2;
         if enough(mean, variance, assurance, middle) {
@@ -49,14 +50,14 @@ fn least(mean: u64, variance: u64, assurance: u64) -> u64
 }
 
 // The cycles that document 01 allocates, or its refusal, for any three numbers.
-pub fn allocate(mean: u64, variance: u64, assurance: u64) -> Allocated
+pub fn allocate(mean: u64, variance: u64, assurance: u64) -> Result<u64, Refused>
     ensures { allocated_says result ≡ allocation mean variance assurance }
 {
     if !in_range(mean, variance, assurance) {
-        return Allocated::Refused(Refusal::Range, 0);
+        return Err(Refusal::Range.at(0));
     }
     if !enough(mean, variance, assurance, MOST_CYCLES) {
-        return Allocated::Refused(Refusal::Allocation, 0);
+        return Err(Refusal::Allocation.at(0));
     }
-    Allocated::Cycles(least(mean, variance, assurance))
+    Ok(least(mean, variance, assurance))
 }

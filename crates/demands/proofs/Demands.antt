@@ -13,6 +13,7 @@ use Prim.Native.Nat.{ℕ, suc, ◌≤◌, ◌<◌}
 use contract.Lifetimes.{Lfts}
 use denote.Ref.{Bor, MutBor}
 use lib.ListN.{length, take}
+use Rattle.std.specs.Prelude.{Result, Ok, is_err}
 use Rattle.boundary.proofs.Unique.{allocate_unique, costs_unique, list_unique, list_with_unique, plan_unique, read_unique, rooms_unique, write_unique}
 use Rattle.boundary.specs.Told as boundary
 use Rattle.boundary.specs.declared.CostsAnswer.{CostsAnswer}
@@ -44,10 +45,11 @@ use Rattle.front.proofs.FieldsHeld.{moved_behind_the_letter, moved_refused, move
 use Rattle.front.proofs.FieldsHeld.{next_refuses_another_kind, next_refuses_without_a_line_feed, take_answers_the_field, take_answers_the_letter, take_refused}
 use Rattle.front.proofs.LinesCounted.{take_counted, walked_lines_counted}
 use Rattle.front.proofs.Unique as front
+use Rattle.front.proofs.WholeText.{clock_of}
 use Rattle.front.specs.ClockLine.{clock_line_says}
 use Rattle.front.specs.Reading.{Moved, Next, Placed, Started, Took, first_place}
 use Rattle.front.specs.Walked.{LineCounted, ReaderTakes, kind_at, other_kind_at}
-use Rattle.front.specs.declared.ClockLine.{ClockLine}
+use Rattle.front.specs.declared.Clock.{Clock}
 use Rattle.front.specs.declared.Kind.{Kind}
 use Rattle.front.specs.declared.Reader.{Reader}
 use Rattle.handing.proofs.Unique.{hand_back_unique}
@@ -59,7 +61,7 @@ use Rattle.planner.proofs.Unique as planner
 use Rattle.planner.specs.Promises.{PlannedAs, Together}
 use Rattle.planner.specs.declared.Planned.{Planned}
 use Rattle.reader.proofs.Unique as reader
-use Rattle.rules.specs.Answers.{allocated_says, decision_says, field_says, good, number_of, panel_says, reading_says, refused, supplied_says, written_says}
+use Rattle.rules.specs.Answers.{allocated_says, decision_says, field_says, good, number_of, panel_says, reading_says, refused, refuses, supplied_says, written_says}
 use Rattle.rules.specs.Costs.{supplied_costs}
 use Rattle.rules.specs.Cycles.{allocation}
 use Rattle.rules.specs.Listing.{listed_with, listing_of}
@@ -68,16 +70,11 @@ use Rattle.rules.specs.Plan.{taken_with}
 use Rattle.rules.specs.Refusals.{check, read, refused_at, taken}
 use Rattle.rules.specs.TableText.{Records, is_budget, is_number, lines_of, most_jobs, no_records, number_in, records_of, table_of, table_with_budget, text_of, with_budget}
 use Rattle.rules.specs.Valid.{Valid, WithinPlaces}
-use Rattle.rules.specs.declared.Allocated.{Allocated}
 use Rattle.rules.specs.declared.Decision.{Decision}
-use Rattle.rules.specs.declared.Field.{Field}
 use Rattle.rules.specs.declared.Panel.{Panel}
-use Rattle.rules.specs.declared.Reading.{Reading}
 use Rattle.rules.specs.declared.Refusal.{Refusal}
-use Rattle.rules.specs.declared.Supplied.{Supplied}
+use Rattle.rules.specs.declared.Refused.{Refused}
 use Rattle.rules.specs.declared.Table.{Table}
-use Rattle.rules.specs.declared.Verdict.{Verdict}
-use Rattle.rules.specs.declared.Written.{Written}
 use Rattle.text.specs.FieldPlaces.{field_answer, field_at, fields_at, line_letter, place_at, place_behind}
 use Rattle.text.specs.Fields.{FieldsTold, most_line, taken_says}
 use Rattle.text.specs.declared.Cursor.{Cursor}
@@ -89,7 +86,7 @@ use Rattle.writer.proofs.Unique as writer
 -- answers, there and nowhere else; the values that it then hands back; and what the lent buffers, or the table handed back, then
 -- hold.
 
-pub refused_by_plan_into : (l : Lfts 2) (table : Table) (budget : ℕ) (order fates order' fates' : MutBor (List ℕ)) (d : Decision)
+pub refused_by_plan_into : (l : Lfts 2) (table : Table) (budget : ℕ) (order fates order' fates' : MutBor (List ℕ)) (d : Result Decision Refused)
     → planner.Promised l table budget order fates d order' fates'
     → Refuses (PlanRefused table budget order.now fates.now) (decision_says d) (0 ∷ 0 ∷ 0 ∷ [])
     ((order'.now ≡ order.now) × (fates'.now ≡ fates.now))
@@ -102,47 +99,47 @@ pub refused_by_plan : (table : Table) (budget : ℕ) (order fates : List ℕ) (b
 refused_by_plan = plan_refuses
 
 pub refused_by_hand_back : (order : List ℕ) (begin : ℕ × ℕ) (why : Refusal) (line : ℕ) (part : List ℕ) (at : ℕ × ℕ)
-    → HandedBack order begin (Decision.Refused why line) part at → part ≡ []
+    → HandedBack order begin (refuses why line) part at → part ≡ []
 refused_by_hand_back = refused_hands_back_nothing
 
-pub refused_by_rooms : (l : Lfts 2) (table : Table) (budget : ℕ) (turns rooms turns' rooms' : MutBor (List ℕ)) (r : Panel)
+pub refused_by_rooms : (l : Lfts 2) (table : Table) (budget : ℕ) (turns rooms turns' rooms' : MutBor (List ℕ)) (r : Result Panel Refused)
     → planner.PromisedRooms l table budget turns rooms r turns' rooms'
     → Refuses (PlanRefused table budget turns.now rooms.now) (panel_says r) (0 ∷ 0 ∷ [])
     ((turns'.now ≡ turns.now) × (rooms'.now ≡ rooms.now))
 refused_by_rooms = rooms_refuses
 
-pub refused_by_list : (l : Lfts 2) (text : Bor (List ℕ)) (out after : MutBor (List ℕ)) (w : Written) → listing.Promised l text out w after
+pub refused_by_list : (l : Lfts 2) (text : Bor (List ℕ)) (out after : MutBor (List ℕ)) (w : Result ℕ Refused) → listing.Promised l text out w after
     → Refuses (ListRefused (listing_of text.now) out.now) (written_says w) (0 ∷ []) (after.now ≡ out.now)
 refused_by_list = list_refuses
 
-pub refused_by_list_with_budget : (l : Lfts 2) (text : Bor (List ℕ)) (budget : ℕ) (out after : MutBor (List ℕ)) (w : Written)
+pub refused_by_list_with_budget : (l : Lfts 2) (text : Bor (List ℕ)) (budget : ℕ) (out after : MutBor (List ℕ)) (w : Result ℕ Refused)
     → listing.PromisedWith l text budget out w after
     → Refuses (ListRefused (listed_with text.now budget) out.now) (written_says w) (0 ∷ []) (after.now ≡ out.now)
 refused_by_list_with_budget = list_with_refuses
 
-pub refused_by_write : (l : Lfts 1) (t : Table) (out after : MutBor (List ℕ)) (w : Written) → writer.Promised l t out w after
+pub refused_by_write : (l : Lfts 1) (t : Table) (out after : MutBor (List ℕ)) (w : Result ℕ Refused) → writer.Promised l t out w after
     → Refuses (WriteRefused t out.now) (written_says w) (0 ∷ []) (after.now ≡ out.now)
 refused_by_write = write_refuses
 
-pub refused_by_read : (l : Lfts 1) (text : Bor (List ℕ)) (r : Reading) → reader.Promised l text r
-    → Refuses (ReadRefused text.now) (reading_says r).answer [] (r.table ≡ table_of no_records)
+pub refused_by_read : (l : Lfts 1) (text : Bor (List ℕ)) (r : Result Table Refused) → reader.Promised l text r
+    → Refuses (ReadRefused text.now) (reading_says r).answer [] ((is_err r ≡ true) × ((reading_says r).table ≡ table_of no_records))
 refused_by_read = read_refuses
 
-pub refused_by_clock_and_budget : (l : Lfts 1) (text : Bor (List ℕ)) (r : ClockLine) → front.Promised l text r
+pub refused_by_clock_and_budget : (l : Lfts 1) (text : Bor (List ℕ)) (r : Result Clock Refused) → front.Promised l text r
     → Refuses (FirstLineRefused text.now) (clock_line_says r) [] NothingLent
 refused_by_clock_and_budget = clock_and_budget_refuses
 
-pub empty_text_by_clock_and_budget : (l : Lfts 1) (text : Bor (List ℕ)) (r : ClockLine) → front.Promised l text r
-    → text.now ≡ [] → r ≡ ClockLine.Refused Refusal.Order 1
+pub empty_text_by_clock_and_budget : (l : Lfts 1) (text : Bor (List ℕ)) (r : Result Clock Refused) → front.Promised l text r
+    → text.now ≡ [] → r ≡ refuses Refusal.Order 1
 empty_text_by_clock_and_budget = empty_text_refused
 
 -- a field is refused 1, with the line that the reader stands in, and the reader stays there; when it is refused: below,
 -- `next_by_the_rules` and the lines behind it
-pub refused_by_next : (reader : Reader) (kind : Kind) (r : Field) → Next reader kind r → IsRefusal (field_says r)
+pub refused_by_next : (reader : Reader) (kind : Kind) (r : Result ℕ Refused) → Next reader kind r → IsRefusal (field_says r)
     → field_says r ≡ refused Refusal.Shape reader.place.line []
 refused_by_next = next_refused
 
-pub refused_by_moved : (reader : Reader) (kind : Kind) (r : Field) → Next reader kind r → IsRefusal (field_says r) → (s : Reader)
+pub refused_by_moved : (reader : Reader) (kind : Kind) (r : Result ℕ Refused) → Next reader kind r → IsRefusal (field_says r) → (s : Reader)
     → Moved reader kind s → s ≡ reader
 refused_by_moved = moved_refused
 
@@ -150,11 +147,11 @@ pub refused_by_take : (text : List ℕ) (at : Cursor) (kind : Kind) (r : FieldTa
     → IsRefusal (field_says r.field) → taken_says r ≡ record { says = refused Refusal.Shape at.line []; next = at }
 refused_by_take = take_refused
 
-pub refused_by_allocate : (mean variance assurance : ℕ) (r : Allocated) → cycles.Promised mean variance assurance r
+pub refused_by_allocate : (mean variance assurance : ℕ) (r : Result ℕ Refused) → cycles.Promised mean variance assurance r
     → Refuses (AllocationRefused mean variance assurance) (allocated_says r) (0 ∷ []) NothingLent
 refused_by_allocate = allocate_refuses
 
-pub refused_by_supplied : (model : ℕ) (r : Supplied) → costs.Promised model r
+pub refused_by_supplied : (model : ℕ) (r : Result (List ℕ) Refused) → costs.Promised model r
     → Refuses (CostsRefused model) (supplied_says r) (0 ∷ 0 ∷ 0 ∷ 0 ∷ 0 ∷ 0 ∷ 0 ∷ []) NothingLent
 refused_by_supplied = supplied_refuses
 
@@ -199,7 +196,7 @@ refused_by_cuddlelamb_costs = cuddlelamb_costs_refuses
 -- DEMAND 2. "Plan, fates, speed and energy are those that the rules of document 01 give, no others." A table that the check takes
 -- is planned with the budget beside it.
 
-pub plan_into_by_the_rules : (l : Lfts 2) (table : Table) (budget : ℕ) (order fates order' fates' : MutBor (List ℕ)) (d : Decision)
+pub plan_into_by_the_rules : (l : Lfts 2) (table : Table) (budget : ℕ) (order fates order' fates' : MutBor (List ℕ)) (d : Result Decision Refused)
     (t : Records) → planner.Promised l table budget order fates d order' fates' → check table ≡ taken t → is_budget budget ≡ true
     → HasRoom order.now fates.now
     → PlannedBy (with_budget t budget) order.now fates.now (decision_says d) order'.now fates'.now
@@ -211,62 +208,62 @@ pub plan_by_the_rules : (table : Table) (budget : ℕ) (order fates : List ℕ) 
 plan_by_the_rules = plan_gives
 
 -- `plan_into` and then `hand_back` of the buffer that it left: the part, and behind it every place as `plan_into` left it
-pub every_place_by_the_rules : (l : Lfts 2) (table : Table) (budget : ℕ) (order fates order' fates' : MutBor (List ℕ)) (d : Decision)
+pub every_place_by_the_rules : (l : Lfts 2) (table : Table) (budget : ℕ) (order fates order' fates' : MutBor (List ℕ)) (d : Result Decision Refused)
     (begin at : ℕ × ℕ) (part : List ℕ) → planner.Promised l table budget order fates d order' fates'
     → HandedBack order'.now begin d part at
     → Together (taken_with table budget) order.now fates.now begin order'.now part at
 every_place_by_the_rules = plan_into_then_hand_back
 
 -- the panel's call (document 02, A2): "It must equal the answer from all the entries", after each turn and at the end
-pub rooms_by_the_rules : (l : Lfts 2) (table : Table) (budget : ℕ) (turns rooms turns' rooms' : MutBor (List ℕ)) (r : Panel)
+pub rooms_by_the_rules : (l : Lfts 2) (table : Table) (budget : ℕ) (turns rooms turns' rooms' : MutBor (List ℕ)) (r : Result Panel Refused)
     (t : Records) → planner.PromisedRooms l table budget turns rooms r turns' rooms' → check table ≡ taken t
     → is_budget budget ≡ true → HasRoom turns.now rooms.now
     → RoomsBy (with_budget t budget) turns.now rooms.now (panel_says r) turns'.now rooms'.now
 rooms_by_the_rules = rooms_gives
 
-pub list_by_the_rules : (l : Lfts 2) (text : Bor (List ℕ)) (out after : MutBor (List ℕ)) (w : Written) → listing.Promised l text out w after
+pub list_by_the_rules : (l : Lfts 2) (text : Bor (List ℕ)) (out after : MutBor (List ℕ)) (w : Result ℕ Refused) → listing.Promised l text out w after
     → length (listing_of text.now) ≤ length out.now
     → AtFront (listing_of text.now) out.now (written_says w) after.now
 list_by_the_rules = list_gives
 
-pub list_with_budget_by_the_rules : (l : Lfts 2) (text : Bor (List ℕ)) (budget : ℕ) (out after : MutBor (List ℕ)) (w : Written)
+pub list_with_budget_by_the_rules : (l : Lfts 2) (text : Bor (List ℕ)) (budget : ℕ) (out after : MutBor (List ℕ)) (w : Result ℕ Refused)
     → listing.PromisedWith l text budget out w after → length (listed_with text.now budget) ≤ length out.now
     → AtFront (listed_with text.now budget) out.now (written_says w) after.now
 list_with_budget_by_the_rules = list_with_gives
 
-pub valid_table_is_written : (l : Lfts 1) (t : Table) (out after : MutBor (List ℕ)) (w : Written) → writer.Promised l t out w after
+pub valid_table_is_written : (l : Lfts 1) (t : Table) (out after : MutBor (List ℕ)) (w : Result ℕ Refused) → writer.Promised l t out w after
     → WithinPlaces t → Valid (records_of t) → length (text_of (records_of t)) ≤ length out.now
     → AtFront (text_of (records_of t)) out.now (written_says w) after.now
 valid_table_is_written = write_gives
 
-pub read_by_the_rules : (l : Lfts 1) (text : Bor (List ℕ)) (r : Reading) (t : Records) → reader.Promised l text r
-    → read text.now ≡ taken t → r ≡ record { verdict = Verdict.Done; table = table_of t }
+pub read_by_the_rules : (l : Lfts 1) (text : Bor (List ℕ)) (r : Result Table Refused) (t : Records) → reader.Promised l text r
+    → read text.now ≡ taken t → r ≡ Ok (table_of t)
 read_by_the_rules = read_gives
 
-pub clock_and_budget_by_the_rules : (l : Lfts 1) (text : Bor (List ℕ)) (r : ClockLine) (t : Records) → front.Promised l text r
-    → read text.now ≡ taken t → r ≡ ClockLine.Clock t.clock t.budget
+pub clock_and_budget_by_the_rules : (l : Lfts 1) (text : Bor (List ℕ)) (r : Result Clock Refused) (t : Records) → front.Promised l text r
+    → read text.now ≡ taken t → r ≡ clock_of t
 clock_and_budget_by_the_rules = clock_and_budget_gives
 
 -- "a field is either a number or the refusal of its line", by any reader that stands at its place: field k of line l, asked for as
 -- what it is, a number with a tab behind it or the last of its line, or as what it is not; the line's letter; and the last field
 -- of a text without a line feed at the end
 pub next_by_the_rules : {text : Bor (List ℕ)} {reader : Reader} (l : ℕ) → 1 ≤ l → l < length (lines_of text.now) → (k : ℕ)
-    → k < length (fields_at text.now l) → Started text (place_at text.now l k) reader → {r : Field}
+    → k < length (fields_at text.now l) → Started text (place_at text.now l k) reader → {r : Result ℕ Refused}
     → Next reader (kind_at text.now l k) r → field_says r ≡ field_answer l (number_in (field_at text.now l k))
 next_by_the_rules = next_answers_the_field
 
 pub another_kind_refused_by_next : {text : Bor (List ℕ)} {reader : Reader} (l : ℕ) → 1 ≤ l → l < length (lines_of text.now)
-    → (k : ℕ) → k < length (fields_at text.now l) → Started text (place_at text.now l k) reader → {r : Field}
+    → (k : ℕ) → k < length (fields_at text.now l) → Started text (place_at text.now l k) reader → {r : Result ℕ Refused}
     → Next reader (other_kind_at text.now l k) r → field_says r ≡ refused Refusal.Shape l []
 another_kind_refused_by_next = next_refuses_another_kind
 
 pub letter_by_the_rules : {text : Bor (List ℕ)} {reader : Reader} (l : ℕ) → 1 ≤ l → l < length (lines_of text.now)
-    → Started text (place_at text.now l 0) reader → {r : Field} → Next reader Kind.Letter r
+    → Started text (place_at text.now l 0) reader → {r : Result ℕ Refused} → Next reader Kind.Letter r
     → field_says r ≡ field_answer l (line_letter text.now l)
 letter_by_the_rules = next_answers_the_letter
 
 pub no_line_feed_refused_by_next : {text : Bor (List ℕ)} {reader : Reader} (l : ℕ) → 1 ≤ l → l ≡ length (lines_of text.now)
-    → (k : ℕ) → suc k ≡ length (fields_at text.now l) → Started text (place_at text.now l k) reader → {r : Field}
+    → (k : ℕ) → suc k ≡ length (fields_at text.now l) → Started text (place_at text.now l k) reader → {r : Result ℕ Refused}
     → Next reader Kind.Last r → field_says r ≡ refused Refusal.Shape l []
 no_line_feed_refused_by_next = next_refuses_without_a_line_feed
 
@@ -302,11 +299,11 @@ pub lines_taken_by_the_rules : (text : List ℕ) → length text ≤ most_line �
     {r : FieldTaken} → Took text at kind r → LineCounted text r.next
 lines_taken_by_the_rules = take_counted
 
-pub allocate_by_the_rules : (mean variance assurance : ℕ) (r : Allocated) → cycles.Promised mean variance assurance r
+pub allocate_by_the_rules : (mean variance assurance : ℕ) (r : Result ℕ Refused) → cycles.Promised mean variance assurance r
     → allocated_says r ≡ allocation mean variance assurance
 allocate_by_the_rules mean variance assurance r promise = promise
 
-pub supplied_by_the_rules : (model : ℕ) (r : Supplied) → costs.Promised model r → supplied_says r ≡ supplied_costs model
+pub supplied_by_the_rules : (model : ℕ) (r : Result (List ℕ) Refused) → costs.Promised model r → supplied_says r ≡ supplied_costs model
 supplied_by_the_rules model r promise = promise
 
 -- the eight calls for C and Rust
@@ -351,14 +348,14 @@ cuddlelamb_costs_by_the_rules model r promise = promise.answer
 -- "With room to write, a valid text read and written again is the same text, and a valid table written and read again the same
 -- table."
 
-pub read_and_written_again : (l l' : Lfts 1) (text : Bor (List ℕ)) (r : Reading) → reader.Promised l text r
-    → r.verdict ≡ Verdict.Done → (out after : MutBor (List ℕ)) (w : Written) → writer.Promised l' r.table out w after
+pub read_and_written_again : (l l' : Lfts 1) (text : Bor (List ℕ)) (table : Table) → reader.Promised l text (Ok table)
+    → (out after : MutBor (List ℕ)) (w : Result ℕ Refused) → writer.Promised l' table out w after
     → length text.now ≤ length out.now → SameText text.now out.now after.now w
 read_and_written_again = text_again
 
 pub written_and_read_again : (l l' : Lfts 1) (t : Table) (out after : MutBor (List ℕ)) (n : ℕ)
-    → writer.Promised l' t out (Written.Length n) after → (text : Bor (List ℕ)) → text.now ≡ take n after.now
-    → (r : Reading) → reader.Promised l text r → SameTable t r
+    → writer.Promised l' t out (Ok n) after → (text : Bor (List ℕ)) → text.now ≡ take n after.now
+    → (r : Result Table Refused) → reader.Promised l text r → SameTable t r
 written_and_read_again = table_again
 
 -- Document 02, A5: "With the text's own budget and buffers large enough, the two answer as the one did, refusals included; the
@@ -366,20 +363,20 @@ written_and_read_again = table_again
 -- are lent; one that is refused, with room; and where a buffer is short: there the one call said 8, line 0, of every text, and so of
 -- a refused one, of which the two tell the refusal that reading gives.
 
-pub read_then_plan_into_as_the_one : (l : Lfts 1) (text : Bor (List ℕ)) (r : Reading) → reader.Promised l text r
-    → r.verdict ≡ Verdict.Done → (l' : Lfts 2) (order fates order' fates' : MutBor (List ℕ)) (d : Decision)
-    → planner.Promised l' r.table r.table.budget order fates d order' fates'
+pub read_then_plan_into_as_the_one : (l : Lfts 1) (text : Bor (List ℕ)) (table : Table) → reader.Promised l text (Ok table)
+    → (l' : Lfts 2) (order fates order' fates' : MutBor (List ℕ)) (d : Result Decision Refused)
+    → planner.Promised l' table table.budget order fates d order' fates'
     → LeavesAsTheOne text.now order.now fates.now (decision_says d) order'.now fates'.now
 read_then_plan_into_as_the_one = plan_into_as_the_one
 
-pub read_then_plan_as_the_one : (l : Lfts 1) (text : Bor (List ℕ)) (r : Reading) → reader.Promised l text r
-    → r.verdict ≡ Verdict.Done → (order fates : List ℕ) (begin : ℕ × ℕ) (p : Planned) (fates' : List ℕ)
-    → PlannedAs (taken_with r.table r.table.budget) order fates begin p fates'
+pub read_then_plan_as_the_one : (l : Lfts 1) (text : Bor (List ℕ)) (table : Table) → reader.Promised l text (Ok table)
+    → (order fates : List ℕ) (begin : ℕ × ℕ) (p : Planned) (fates' : List ℕ)
+    → PlannedAs (taken_with table table.budget) order fates begin p fates'
     → AsTheOne text.now order fates (decision_says p.decision) p.plan.now fates'
 read_then_plan_as_the_one = plan_as_the_one
 
-pub refused_reading_as_the_one : (l : Lfts 1) (text : Bor (List ℕ)) (r : Reading) → reader.Promised l text r
-    → (why : Refusal) (line : ℕ) → r.verdict ≡ Verdict.Refused why line → (order fates : List ℕ) → HasRoom order fates
+pub refused_reading_as_the_one : (l : Lfts 1) (text : Bor (List ℕ)) (why : Refusal) (line : ℕ)
+    → reader.Promised l text (refuses why line) → (order fates : List ℕ) → HasRoom order fates
     → NotPlanned text.now order fates (number_of why) line
 refused_reading_as_the_one = refused_as_the_one
 
@@ -387,8 +384,8 @@ pub where_a_buffer_is_short : (text order fates : List ℕ) → (length order < 
     → OneSaidRoom text order fates
 where_a_buffer_is_short = one_said_room
 
-pub refused_reading_not_as_the_one : (l : Lfts 1) (text : Bor (List ℕ)) (r : Reading) → reader.Promised l text r
-    → (why : Refusal) (line : ℕ) → r.verdict ≡ Verdict.Refused why line → (order fates : List ℕ)
+pub refused_reading_not_as_the_one : (l : Lfts 1) (text : Bor (List ℕ)) (why : Refusal) (line : ℕ)
+    → reader.Promised l text (refuses why line) → (order fates : List ℕ)
     → (length order < most_jobs) ⊎ (length fates < most_jobs) → OtherThanTheOne text.now order fates (number_of why) line
 refused_reading_not_as_the_one = refused_not_as_the_one
 
@@ -406,7 +403,7 @@ cuddlelamb_refused_reading_as_the_one = cuddlelamb_refused_as_the_one
 -- the budget beside. The listing is that with the text's own budget beside it, and of a refused text that with any.
 
 pub budget_beside_is_planned_with : (table : Table) (budget : ℕ) → is_budget table.budget ≡ true → is_budget budget ≡ true
-    → (l l* : Lfts 2) (order fates a b a' b' : MutBor (List ℕ)) (d e : Decision) → planner.Promised l table budget order fates d a b
+    → (l l* : Lfts 2) (order fates a b a' b' : MutBor (List ℕ)) (d e : Result Decision Refused) → planner.Promised l table budget order fates d a b
     → planner.Promised l* (table_with_budget table budget) budget order fates e a' b'
     → (d ≡ e) × (a.now ≡ a'.now) × (b.now ≡ b'.now)
 budget_beside_is_planned_with = same_as_its_own
@@ -425,7 +422,7 @@ pub budget_beside_is_planned_with_by_cuddlelamb_plan : (table : Table) (budget :
 budget_beside_is_planned_with_by_cuddlelamb_plan = told_as_its_own
 
 pub budget_beside_is_told_with : (table : Table) (budget : ℕ) → is_budget table.budget ≡ true → is_budget budget ≡ true
-    → (l l* : Lfts 2) (turns rooms a b a' b' : MutBor (List ℕ)) (r s : Panel) → planner.PromisedRooms l table budget turns rooms r a b
+    → (l l* : Lfts 2) (turns rooms a b a' b' : MutBor (List ℕ)) (r s : Result Panel Refused) → planner.PromisedRooms l table budget turns rooms r a b
     → planner.PromisedRooms l* (table_with_budget table budget) budget turns rooms s a' b'
     → (r ≡ s) × (a.now ≡ a'.now) × (b.now ≡ b'.now)
 budget_beside_is_told_with = rooms_as_its_own
@@ -436,16 +433,16 @@ pub budget_beside_is_told_with_by_cuddlelamb_rooms : (table : Table) (budget : �
     → boundary.RoomsTold (taken_with (table_with_budget table budget) budget) turns rooms s a' b' → (r ≡ s) × (a ≡ a') × (b ≡ b')
 budget_beside_is_told_with_by_cuddlelamb_rooms = cuddlelamb_rooms_as_its_own
 
-pub budget_beside_is_listed_with : (l l* : Lfts 2) (text text* : Bor (List ℕ)) (out a b : MutBor (List ℕ)) (w v : Written) (t : Records) (budget : ℕ)
+pub budget_beside_is_listed_with : (l l* : Lfts 2) (text text* : Bor (List ℕ)) (out a b : MutBor (List ℕ)) (w v : Result ℕ Refused) (t : Records) (budget : ℕ)
     → read text.now ≡ taken t → is_budget budget ≡ true → text*.now ≡ text_of (with_budget t budget)
     → listing.Promised l text* out w a → listing.PromisedWith l* text budget out v b → (w ≡ v) × (a.now ≡ b.now)
 budget_beside_is_listed_with = list_with_as_its_own
 
-pub list_is_at_the_own_budget : (l l* : Lfts 2) (text : Bor (List ℕ)) (out a b : MutBor (List ℕ)) (w v : Written) → listing.Promised l text out w a
+pub list_is_at_the_own_budget : (l l* : Lfts 2) (text : Bor (List ℕ)) (out a b : MutBor (List ℕ)) (w v : Result ℕ Refused) → listing.Promised l text out w a
     → (t : Records) → read text.now ≡ taken t → listing.PromisedWith l* text t.budget out v b → (w ≡ v) × (a.now ≡ b.now)
 list_is_at_the_own_budget = list_at_own_budget
 
-pub refused_text_is_listed_alike : (l l* : Lfts 2) (text : Bor (List ℕ)) (out a b : MutBor (List ℕ)) (w v : Written)
+pub refused_text_is_listed_alike : (l l* : Lfts 2) (text : Bor (List ℕ)) (out a b : MutBor (List ℕ)) (w v : Result ℕ Refused)
     → listing.Promised l text out w a → (why : Refusal) (line : ℕ) → read text.now ≡ refused_at why line → (budget : ℕ)
     → listing.PromisedWith l* text budget out v b → (w ≡ v) × (a.now ≡ b.now)
 refused_text_is_listed_alike = list_refused_at_any_budget
@@ -461,15 +458,15 @@ refused_text_is_listed_alike_by_cuddlelamb_list = cuddlelamb_list_refused_at_any
 
 -- "no others": any two answers that a promise allows are one, and so is what the lent buffers hold
 
-pub one_answer_of_read : (l : Lfts 1) (text : Bor (List ℕ)) (r s : Reading) → reader.Promised l text r
+pub one_answer_of_read : (l : Lfts 1) (text : Bor (List ℕ)) (r s : Result Table Refused) → reader.Promised l text r
     → reader.Promised l text s → r ≡ s
 one_answer_of_read = reader.unique
 
-pub one_answer_of_write : (l : Lfts 1) (t : Table) (out a b : MutBor (List ℕ)) (r s : Written) → writer.Promised l t out r a
+pub one_answer_of_write : (l : Lfts 1) (t : Table) (out a b : MutBor (List ℕ)) (r s : Result ℕ Refused) → writer.Promised l t out r a
     → writer.Promised l t out s b → (r ≡ s) × (a.now ≡ b.now)
 one_answer_of_write = writer.unique
 
-pub one_answer_of_plan_into : (l : Lfts 2) (table : Table) (budget : ℕ) (order fates a b a' b' : MutBor (List ℕ)) (r s : Decision)
+pub one_answer_of_plan_into : (l : Lfts 2) (table : Table) (budget : ℕ) (order fates a b a' b' : MutBor (List ℕ)) (r s : Result Decision Refused)
     → planner.Promised l table budget order fates r a b → planner.Promised l table budget order fates s a' b'
     → (r ≡ s) × (a.now ≡ a'.now) × (b.now ≡ b'.now)
 one_answer_of_plan_into = planner.unique_into
@@ -479,34 +476,34 @@ pub one_answer_of_plan : (table : Table) (budget : ℕ) (order fates : List ℕ)
     → (r.plan.now ≡ s.plan.now) × (r.plan.ref_ptr ≡ s.plan.ref_ptr) × (r.decision ≡ s.decision) × (b ≡ b')
 one_answer_of_plan = planner.unique_plan
 
-pub one_answer_of_hand_back : (order : List ℕ) (begin : ℕ × ℕ) (d : Decision) (part part' : List ℕ) (at at' : ℕ × ℕ)
+pub one_answer_of_hand_back : (order : List ℕ) (begin : ℕ × ℕ) (d : Result Decision Refused) (part part' : List ℕ) (at at' : ℕ × ℕ)
     → HandedBack order begin d part at → HandedBack order begin d part' at' → (part ≡ part') × (at ≡ at')
 one_answer_of_hand_back = hand_back_unique
 
-pub one_answer_of_rooms : (l : Lfts 2) (table : Table) (budget : ℕ) (turns rooms a b a' b' : MutBor (List ℕ)) (r s : Panel)
+pub one_answer_of_rooms : (l : Lfts 2) (table : Table) (budget : ℕ) (turns rooms a b a' b' : MutBor (List ℕ)) (r s : Result Panel Refused)
     → planner.PromisedRooms l table budget turns rooms r a b → planner.PromisedRooms l table budget turns rooms s a' b'
     → (r ≡ s) × (a.now ≡ a'.now) × (b.now ≡ b'.now)
 one_answer_of_rooms = planner.unique_rooms
 
-pub one_answer_of_list : (l : Lfts 2) (text : Bor (List ℕ)) (out a b : MutBor (List ℕ)) (r s : Written) → listing.Promised l text out r a
+pub one_answer_of_list : (l : Lfts 2) (text : Bor (List ℕ)) (out a b : MutBor (List ℕ)) (r s : Result ℕ Refused) → listing.Promised l text out r a
     → listing.Promised l text out s b → (r ≡ s) × (a.now ≡ b.now)
 one_answer_of_list = listing.unique
 
-pub one_answer_of_list_with_budget : (l : Lfts 2) (text : Bor (List ℕ)) (budget : ℕ) (out a b : MutBor (List ℕ)) (r s : Written)
+pub one_answer_of_list_with_budget : (l : Lfts 2) (text : Bor (List ℕ)) (budget : ℕ) (out a b : MutBor (List ℕ)) (r s : Result ℕ Refused)
     → listing.PromisedWith l text budget out r a → listing.PromisedWith l text budget out s b → (r ≡ s) × (a.now ≡ b.now)
 one_answer_of_list_with_budget = listing.unique_with_budget
 
-pub one_answer_of_allocate : (mean variance assurance : ℕ) (r s : Allocated) → cycles.Promised mean variance assurance r
+pub one_answer_of_allocate : (mean variance assurance : ℕ) (r s : Result ℕ Refused) → cycles.Promised mean variance assurance r
     → cycles.Promised mean variance assurance s → r ≡ s
 one_answer_of_allocate = cycles.unique
 
-pub one_answer_of_supplied : (model : ℕ) (r s : Supplied) → costs.Promised model r → costs.Promised model s → r ≡ s
+pub one_answer_of_supplied : (model : ℕ) (r s : Result (List ℕ) Refused) → costs.Promised model r → costs.Promised model s → r ≡ s
 one_answer_of_supplied = costs.unique
 
 pub one_answer_of_start : (text : Bor (List ℕ)) (at : Cursor) (r s : Reader) → Started text at r → Started text at s → r ≡ s
 one_answer_of_start = front.start_unique
 
-pub one_answer_of_next : (reader : Reader) (kind : Kind) (r s : Field) → Next reader kind r → Next reader kind s → r ≡ s
+pub one_answer_of_next : (reader : Reader) (kind : Kind) (r s : Result ℕ Refused) → Next reader kind r → Next reader kind s → r ≡ s
 one_answer_of_next = front.next_unique
 
 pub one_answer_of_moved : (reader : Reader) (kind : Kind) (r s : Reader) → Moved reader kind r → Moved reader kind s → r ≡ s
@@ -519,7 +516,7 @@ pub one_answer_of_take : (text : List ℕ) (at : Cursor) (kind : Kind) (r s : Fi
     → Took text at kind s → r ≡ s
 one_answer_of_take = front.take_unique
 
-pub one_answer_of_clock_and_budget : (l : Lfts 1) (text : Bor (List ℕ)) (r s : ClockLine) → front.Promised l text r
+pub one_answer_of_clock_and_budget : (l : Lfts 1) (text : Bor (List ℕ)) (r s : Result Clock Refused) → front.Promised l text r
     → front.Promised l text s → r ≡ s
 one_answer_of_clock_and_budget = front.clock_and_budget_unique
 
@@ -565,7 +562,7 @@ one_answer_of_cuddlelamb_costs = costs_unique
 
 pub unplanned_jobs_do_not_matter : (set : ℕ → Bool) (table table* : Table) (budget : ℕ) (a b : Records)
     → BothAgree set (check table) (check table*) a b → is_budget budget ≡ true → (l l* : Lfts 2)
-    (order order* fates fates* order' order*' fates' fates*' : MutBor (List ℕ)) (d e : Decision)
+    (order order* fates fates* order' order*' fates' fates*' : MutBor (List ℕ)) (d e : Result Decision Refused)
     → planner.Promised l table budget order fates d order' fates' → planner.Promised l* table* budget order* fates* e order*' fates*'
     → HasRoom order.now fates.now → HasRoom order*.now fates*.now
     → NoneInFront set (front_of (decision_says d) order'.now) → NoneInFront set (front_of (decision_says e) order*'.now)
@@ -595,7 +592,7 @@ unplanned_jobs_do_not_matter_to_cuddlelamb_plan = unplanned_do_not_matter_to_cud
 pub unplanned_jobs_do_not_matter_to_rooms : (set : ℕ → Bool) (table table* : Table) (budget : ℕ) (a b : Records)
     → BothAgree set (check table) (check table*) a b → is_budget budget ≡ true
     → NonePlanned set (with_budget a budget) → NonePlanned set (with_budget b budget) → (l l* : Lfts 2)
-    (turns rooms turns* rooms* turns' rooms' turns*' rooms*' : MutBor (List ℕ)) (r s : Panel)
+    (turns rooms turns* rooms* turns' rooms' turns*' rooms*' : MutBor (List ℕ)) (r s : Result Panel Refused)
     → planner.PromisedRooms l table budget turns rooms r turns' rooms'
     → planner.PromisedRooms l* table* budget turns* rooms* s turns*' rooms*'
     → HasRoom turns.now rooms.now → HasRoom turns*.now rooms*.now
@@ -617,14 +614,14 @@ unplanned_jobs_do_not_matter_to_cuddlelamb_rooms = unplanned_do_not_matter_to_cu
 -- outside. Without a budget beside them the texts agree in their own.
 
 pub unplanned_jobs_do_not_matter_to_list : (set : ℕ → Bool) (l l* : Lfts 2) (text text* : Bor (List ℕ)) (out out* after after* : MutBor (List ℕ))
-    (w v : Written) (a b : Records) → BothAgree set (read text.now) (read text*.now) a b → a.budget ≡ b.budget
+    (w v : Result ℕ Refused) (a b : Records) → BothAgree set (read text.now) (read text*.now) a b → a.budget ≡ b.budget
     → listing.Promised l text out w after → listing.Promised l* text* out* v after* → NonePlanned set a → NonePlanned set b
     → length (listing_of text.now) ≤ length out.now → length (listing_of text*.now) ≤ length out*.now
     → SameListing (out_of set) a b (front_of (written_says w) after.now) (front_of (written_says v) after*.now)
 unplanned_jobs_do_not_matter_to_list = unplanned_do_not_matter_to_list
 
 pub unplanned_jobs_do_not_matter_to_list_with_budget : (set : ℕ → Bool) (l l* : Lfts 2)
-    (text text* : Bor (List ℕ)) (out out* after after* : MutBor (List ℕ)) (w v : Written) (a b : Records)
+    (text text* : Bor (List ℕ)) (out out* after after* : MutBor (List ℕ)) (w v : Result ℕ Refused) (a b : Records)
     → BothAgree set (read text.now) (read text*.now) a b → (budget : ℕ) → is_budget budget ≡ true
     → listing.PromisedWith l text budget out w after → listing.PromisedWith l* text* budget out* v after*
     → NonePlanned set (with_budget a budget) → NonePlanned set (with_budget b budget)

@@ -9,14 +9,15 @@ use contract.Lifetimes.{Lfts}
 use denote.Ref.{Bor, MutBor}
 use lib.ListN.{length, length-map, take}
 use lib.Seq.{take_at}
+use Rattle.std.specs.Prelude.{Result, Ok}
 use Rattle.boundary.specs.Told as boundary
 use Rattle.boundary.specs.declared.PlanAnswer.{PlanAnswer}
 use Rattle.boundary.specs.declared.TableAnswer.{TableAnswer}
 use Rattle.boundary.specs.declared.TextAnswer.{TextAnswer}
 use Rattle.demands.specs.Plans.{AtFront, HasRoom, PartBy, PlannedBy}
 use Rattle.front.proofs.Unique as front
-use Rattle.front.proofs.WholeText.{answer_of_table}
-use Rattle.front.specs.declared.ClockLine.{ClockLine}
+use Rattle.front.proofs.WholeText.{answer_of_table, clock_of}
+use Rattle.front.specs.declared.Clock.{Clock}
 use Rattle.grammar.proofs.BudgetBeside.{taken-with}
 use Rattle.grammar.proofs.Trips.{check_exactly}
 use Rattle.laws.proofs.Unique.{reading_unique}
@@ -32,11 +33,9 @@ use Rattle.rules.specs.Plan.{AfterPlanning, leaves_of, leaves_plan, numbers_of, 
 use Rattle.rules.specs.Refusals.{AfterWriting, check, read, reading_up_to, table_answer_up_to, taken, writing, written, written_of, Taken}
 use Rattle.rules.specs.TableText.{Records, is_budget, padded, records_of, table_of, text_of, with_budget}
 use Rattle.rules.specs.Valid.{Valid, WithinPlaces}
+use Rattle.rules.specs.declared.Refused.{Refused}
 use Rattle.rules.specs.declared.Decision.{Decision}
-use Rattle.rules.specs.declared.Reading.{Reading}
 use Rattle.rules.specs.declared.Table.{Table}
-use Rattle.rules.specs.declared.Verdict.{Verdict}
-use Rattle.rules.specs.declared.Written.{Written}
 use Rattle.writer.proofs.Unique as writer
 
 -- the rules plan what is taken, where both buffers have room
@@ -59,7 +58,7 @@ planned_by k order fates t e large says order' fates' answered order_left fates-
     }
 
 -- `plan_into`
-pub plan_into_gives : (lifetimes : Lfts 2) (table : Table) (budget : ℕ) (order fates order' fates' : MutBor (List ℕ)) (d : Decision)
+pub plan_into_gives : (lifetimes : Lfts 2) (table : Table) (budget : ℕ) (order fates order' fates' : MutBor (List ℕ)) (d : Result Decision Refused)
     (t : Records) → planner.Promised lifetimes table budget order fates d order' fates' → check table ≡ taken t
     → is_budget budget ≡ true → HasRoom order.now fates.now
     → PlannedBy (with_budget t budget) order.now fates.now (decision_says d) order'.now fates'.now
@@ -109,7 +108,7 @@ at_front text out h says after answered left =
     record { answer = answered ∙ rw fits; out_left = left ∙ rw fits }
 
 -- `list`: the listing
-pub list_gives : (lifetimes : Lfts 2) (text : Bor (List ℕ)) (out after : MutBor (List ℕ)) (w : Written)
+pub list_gives : (lifetimes : Lfts 2) (text : Bor (List ℕ)) (out after : MutBor (List ℕ)) (w : Result ℕ Refused)
     → listing.Promised lifetimes text out w after → length (listing_of text.now) ≤ length out.now
     → AtFront (listing_of text.now) out.now (written_says w) after.now
 unfolding listing
@@ -118,7 +117,7 @@ list_gives lifetimes text out after w promise h =
     (ap (λ (a : AfterWriting). a.answer) promise) (ap (λ (a : AfterWriting). a.out) promise)
 
 -- `list_with_budget`
-pub list_with_gives : (lifetimes : Lfts 2) (text : Bor (List ℕ)) (budget : ℕ) (out after : MutBor (List ℕ)) (w : Written)
+pub list_with_gives : (lifetimes : Lfts 2) (text : Bor (List ℕ)) (budget : ℕ) (out after : MutBor (List ℕ)) (w : Result ℕ Refused)
     → listing.PromisedWith lifetimes text budget out w after → length (listed_with text.now budget) ≤ length out.now
     → AtFront (listed_with text.now budget) out.now (written_says w) after.now
 unfolding listing_with
@@ -145,7 +144,7 @@ writing_valid : (t : Table) (out : List ℕ) → WithinPlaces t → Valid (recor
 unfolding writing written_of
 writing_valid t out fits valid = rw ((check_exactly t (records_of t)).1 (valid, refl, fits))
 
-pub write_gives : (lifetime : Lfts 1) (t : Table) (out after : MutBor (List ℕ)) (w : Written)
+pub write_gives : (lifetime : Lfts 1) (t : Table) (out after : MutBor (List ℕ)) (w : Result ℕ Refused)
     → writer.Promised lifetime t out w after → WithinPlaces t → Valid (records_of t)
     → length (text_of (records_of t)) ≤ length out.now
     → AtFront (text_of (records_of t)) out.now (written_says w) after.now
@@ -163,11 +162,11 @@ cuddlelamb_write_gives t out after r promise fits valid h =
     (promise.answer ∙ ap (λ (a : AfterWriting). a.answer) same) (promise.out_left ∙ ap (λ (a : AfterWriting). a.out) same)
 
 -- `read`: the table of the records
-pub read_gives : (lifetime : Lfts 1) (text : Bor (List ℕ)) (r : Reading) (t : Records) → reader.Promised lifetime text r
-    → read text.now ≡ taken t → r ≡ record { verdict = Verdict.Done; table = table_of t }
+pub read_gives : (lifetime : Lfts 1) (text : Bor (List ℕ)) (r : Result Table Refused) (t : Records) → reader.Promised lifetime text r
+    → read text.now ≡ taken t → r ≡ Ok (table_of t)
 unfolding reading_up_to table_answer_up_to
 read_gives lifetime text r t promise e =
-    reading_unique r (record { verdict = Verdict.Done; table = table_of t }) (promise ∙ rw e)
+    reading_unique r (Ok (table_of t)) (promise ∙ rw e)
 
 pub cuddlelamb_read_gives : (text : List ℕ) (r : TableAnswer) (t : Records) → boundary.ReadTold text r → read text ≡ taken t
     → (boundary.table_says r ≡ good []) × (r.table ≡ table_of t)
@@ -175,6 +174,6 @@ unfolding reading_up_to table_answer_up_to
 cuddlelamb_read_gives text r t promise e = (promise.answer ∙ rw e, promise.table ∙ rw e)
 
 -- `clock_and_budget`: those of the table
-pub clock_and_budget_gives : (lifetime : Lfts 1) (text : Bor (List ℕ)) (r : ClockLine) (t : Records)
-    → front.Promised lifetime text r → read text.now ≡ taken t → r ≡ ClockLine.Clock t.clock t.budget
+pub clock_and_budget_gives : (lifetime : Lfts 1) (text : Bor (List ℕ)) (r : Result Clock Refused) (t : Records)
+    → front.Promised lifetime text r → read text.now ≡ taken t → r ≡ clock_of t
 clock_and_budget_gives lifetime text r t promise e = answer_of_table text.now t r promise e

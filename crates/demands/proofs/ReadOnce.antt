@@ -10,6 +10,8 @@ use native.Mathlib.Omega.{arith}
 use contract.Lifetimes.{Lfts}
 use denote.Ref.{Bor, MutBor}
 use lib.ListN.{length}
+use Rattle.std.specs.Prelude.{Result, Ok}
+use Rattle.beside.specs.Listed.{wrote}
 use Rattle.boundary.proofs.Unique.{plan_unique, text_known}
 use Rattle.boundary.specs.Told as boundary
 use Rattle.boundary.specs.declared.PlanAnswer.{PlanAnswer}
@@ -21,24 +23,21 @@ use Rattle.grammar.proofs.BudgetBeside.{as_its_table, budget_beside_counts, list
 use Rattle.grammar.proofs.Readings.{reading_done, reading_refused, refused_from_line_1}
 use Rattle.laws.proofs.Unique.{decision_unique, refusal_not_0, written_unique}
 use Rattle.listing.proofs.Unique as lists
-use Rattle.listing.specs.Listed.{wrote}
 use Rattle.planner.proofs.Decisions.{either_true, room, too-small}
 use Rattle.planner.proofs.Unique as planner
 use Rattle.planner.specs.Promises.{PlannedAs}
 use Rattle.planner.specs.declared.Planned.{Planned}
 use Rattle.reader.proofs.Unique as reader
 use Rattle.plans.specs.Promises.{leaves}
-use Rattle.rules.specs.Answers.{Answer, decision_says, number_of}
+use Rattle.rules.specs.Answers.{Answer, decision_says, number_of, refuses}
 use Rattle.rules.specs.Listing.{listed_with, listing, listing_of, listing_with}
 use Rattle.rules.specs.Plan.{AfterPlanning, leaves_all, leaves_of, part_of, planning, planning_of, planning_of_up_to, planning_with, taken_with, too_small}
 use Rattle.rules.specs.Refusals.{AfterWriting, Taken, read, reading_up_to, refused_at, table_answer, table_answer_up_to, taken, written}
 use Rattle.rules.specs.TableText.{Records, is_budget, most_jobs, table_of, table_of_up_to, table_with_budget, text_of, with_budget}
 use Rattle.rules.specs.declared.Decision.{Decision}
-use Rattle.rules.specs.declared.Reading.{Reading}
 use Rattle.rules.specs.declared.Refusal.{Refusal}
+use Rattle.rules.specs.declared.Refused.{Refused}
 use Rattle.rules.specs.declared.Table.{Table}
-use Rattle.rules.specs.declared.Verdict.{Verdict}
-use Rattle.rules.specs.declared.Written.{Written}
 
 -- the rules
 
@@ -88,36 +87,39 @@ module _ (text : List ℕ) where
 
 -- the calls of Rattle
 
-module _ (lifetime : Lfts 1) (text : Bor (List ℕ)) (r : Reading) (promise : reader.Promised lifetime text r) where
-  pub plan_into_as_the_one : r.verdict ≡ Verdict.Done → (lifetimes : Lfts 2) (order fates order' fates' : MutBor (List ℕ))
-      (d : Decision) → planner.Promised lifetimes r.table r.table.budget order fates d order' fates'
+module _ (lifetime : Lfts 1) (text : Bor (List ℕ)) (table : Table) (promise : reader.Promised lifetime text (Ok table)) where
+  pub plan_into_as_the_one : (lifetimes : Lfts 2) (order fates order' fates' : MutBor (List ℕ))
+      (d : Result Decision Refused) → planner.Promised lifetimes table table.budget order fates d order' fates'
       → LeavesAsTheOne text.now order.now fates.now (decision_says d) order'.now fates'.now
-  plan_into_as_the_one done lifetimes order fates order' fates' d planned =
-      let (t, e, same) = reading_done text.now r promise done in
+  plan_into_as_the_one lifetimes order fates order' fates' d planned =
+      let (t, e, same) = reading_done text.now table promise in
       left_as_one text.now order.now fates.now (leaves d order'.now fates'.now)
-      (planned ∙ read_planned text.now t e r.table same order.now fates.now)
+      (planned ∙ read_planned text.now t e table same order.now fates.now)
 
-  pub plan_as_the_one : r.verdict ≡ Verdict.Done → (order fates : List ℕ) (begin : ℕ × ℕ) (p : Planned) (fates' : List ℕ)
-      → PlannedAs (taken_with r.table r.table.budget) order fates begin p fates'
+  pub plan_as_the_one : (order fates : List ℕ) (begin : ℕ × ℕ) (p : Planned) (fates' : List ℕ)
+      → PlannedAs (taken_with table table.budget) order fates begin p fates'
       → AsTheOne text.now order fates (decision_says p.decision) p.plan.now fates'
-  plan_as_the_one done order fates begin p fates' planned =
-      let (t, e, same) = reading_done text.now r promise done in
-      let all = read_planned text.now t e r.table same order fates in
+  plan_as_the_one order fates begin p fates' planned =
+      let (t, e, same) = reading_done text.now table promise in
+      let all = read_planned text.now t e table same order fates in
       record {
         answer = planned.decided ∙ ap (λ (a : AfterPlanning). a.answer) all;
         part_is = planned.plan ∙ ap part_of all;
         fates-left = planned.fates-left ∙ ap (λ (a : AfterPlanning). a.fates) all;
       }
 
-  module _ (why : Refusal) (line : ℕ) (refused : r.verdict ≡ Verdict.Refused why line) (order fates : List ℕ) where
-    pub refused_as_the_one : HasRoom order fates → NotPlanned text.now order fates (number_of why) line
-    refused_as_the_one = not-planned text.now order fates why line (reading_refused text.now r why line promise refused)
+module _ (lifetime : Lfts 1) (text : Bor (List ℕ)) (why : Refusal) (line : ℕ)
+    (promise : reader.Promised lifetime text (refuses why line)) (order fates : List ℕ) where
+  is_refused : read text.now ≡ refused_at why line
+  is_refused = reading_refused text.now (record { why = why; line = line }) promise
 
-    -- where a buffer is short the two tell the text's refusal, and the one told another
-    pub refused_not_as_the_one : (length order < most_jobs) ⊎ (length fates < most_jobs)
-        → OtherThanTheOne text.now order fates (number_of why) line
-    refused_not_as_the_one =
-        other_than_the_one text.now order fates why line (reading_refused text.now r why line promise refused)
+  pub refused_as_the_one : HasRoom order fates → NotPlanned text.now order fates (number_of why) line
+  refused_as_the_one = not-planned text.now order fates why line is_refused
+
+  -- where a buffer is short the two tell the text's refusal, and the one told another
+  pub refused_not_as_the_one : (length order < most_jobs) ⊎ (length fates < most_jobs)
+      → OtherThanTheOne text.now order fates (number_of why) line
+  refused_not_as_the_one = other_than_the_one text.now order fates why line is_refused
 
 -- the calls for C and Rust
 
@@ -153,7 +155,7 @@ module _ (text : List ℕ) (r : TableAnswer) (promise : boundary.ReadTold text r
 -- the budget beside
 
 module _ (table : Table) (budget : ℕ) (own : is_budget table.budget ≡ true) (beside : is_budget budget ≡ true) where
-  pub same_as_its_own : (l l* : Lfts 2) (order fates a b a' b' : MutBor (List ℕ)) (d e : Decision)
+  pub same_as_its_own : (l l* : Lfts 2) (order fates a b a' b' : MutBor (List ℕ)) (d e : Result Decision Refused)
       → planner.Promised l table budget order fates d a b
       → planner.Promised l* (table_with_budget table budget) budget order fates e a' b'
       → (d ≡ e) × (a.now ≡ a'.now) × (b.now ≡ b'.now)
@@ -184,13 +186,13 @@ module _ (table : Table) (budget : ℕ) (own : is_budget table.budget ≡ true) 
 -- the listing
 
 -- two answers that say what is written of the same lines
-listed_alike : (lines lines* out : List ℕ) (w v : Written) (a b : List ℕ) → wrote w a ≡ written lines out
+listed_alike : (lines lines* out : List ℕ) (w v : Result ℕ Refused) (a b : List ℕ) → wrote w a ≡ written lines out
     → wrote v b ≡ written lines* out → lines* ≡ lines → (w ≡ v) × (a ≡ b)
 listed_alike lines lines* out w v a b p q same =
     let all = p ∙ sym (ap (λ ls. written ls out) same) ∙ sym q in
     (written_unique w v (ap (λ (x : AfterWriting). x.answer) all), ap (λ (x : AfterWriting). x.out) all)
 
-module _ (l l* : Lfts 2) (text : Bor (List ℕ)) (out a b : MutBor (List ℕ)) (w v : Written) (p : lists.Promised l text out w a) where
+module _ (l l* : Lfts 2) (text : Bor (List ℕ)) (out a b : MutBor (List ℕ)) (w v : Result ℕ Refused) (p : lists.Promised l text out w a) where
   pub list_at_own_budget : (t : Records) → read text.now ≡ taken t → lists.PromisedWith l* text t.budget out v b
       → (w ≡ v) × (a.now ≡ b.now)
   unfolding listing listing_with
@@ -206,7 +208,7 @@ module _ (l l* : Lfts 2) (text : Bor (List ℕ)) (out a b : MutBor (List ℕ)) (
       (listed_refused text.now why line e budget)
 
 -- with a budget beside a text, and with it in the T of another
-pub list_with_as_its_own : (l l* : Lfts 2) (text text* : Bor (List ℕ)) (out a b : MutBor (List ℕ)) (w v : Written) (t : Records) (budget : ℕ)
+pub list_with_as_its_own : (l l* : Lfts 2) (text text* : Bor (List ℕ)) (out a b : MutBor (List ℕ)) (w v : Result ℕ Refused) (t : Records) (budget : ℕ)
     → read text.now ≡ taken t → is_budget budget ≡ true → text*.now ≡ text_of (with_budget t budget)
     → lists.Promised l text* out w a → lists.PromisedWith l* text budget out v b → (w ≡ v) × (a.now ≡ b.now)
 unfolding listing listing_with

@@ -7,6 +7,7 @@ use mathlib.Core.Path.{◌≡◌, sym, ap, ◌∙◌}
 use Prim.Native.Nat.{ℕ}
 use contract.Lifetimes.{Lfts}
 use denote.Ref.{MutBor}
+use Rattle.std.specs.Prelude.{Result}
 use Rattle.boundary.proofs.Unique.{rooms_unique}
 use Rattle.boundary.specs.Told as boundary
 use Rattle.boundary.specs.declared.RoomsAnswer.{RoomsAnswer}
@@ -24,6 +25,7 @@ use Rattle.rules.specs.Plan.{taken_with}
 use Rattle.rules.specs.Refusals.{Taken, check, taken}
 use Rattle.rules.specs.Rooms.{AfterRooms, leaves_rooms, leaves_rooms_of, panel_of, panel_of_up_to}
 use Rattle.rules.specs.TableText.{Records, is_budget, table_with_budget, with_budget}
+use Rattle.rules.specs.declared.Refused.{Refused}
 use Rattle.rules.specs.declared.Panel.{Panel}
 use Rattle.rules.specs.declared.Table.{Table}
 use Rattle.theorems.proofs.Demand3Rooms.{unplanned_leave_the_rooms}
@@ -31,7 +33,7 @@ use Rattle.theorems.specs.Demand3.{NonePlanned, out_of}
 
 -- demand 1
 
-pub rooms_refuses : (l : Lfts 2) (table : Table) (budget : ℕ) (turns rooms turns' rooms' : MutBor (List ℕ)) (r : Panel)
+pub rooms_refuses : (l : Lfts 2) (table : Table) (budget : ℕ) (turns rooms turns' rooms' : MutBor (List ℕ)) (r : Result Panel Refused)
     → planner.PromisedRooms l table budget turns rooms r turns' rooms'
     → Refuses (PlanRefused table budget turns.now rooms.now) (panel_says r) (0 ∷ 0 ∷ [])
     ((turns'.now ≡ turns.now) × (rooms'.now ≡ rooms.now))
@@ -66,7 +68,7 @@ rooms_by k turns rooms t e large says turns' rooms' answered turns_left rooms_le
       rooms_left = rooms_left ∙ ap (λ (a : AfterRooms). a.rooms) same;
     }
 
-pub rooms_gives : (l : Lfts 2) (table : Table) (budget : ℕ) (turns rooms turns' rooms' : MutBor (List ℕ)) (r : Panel) (t : Records)
+pub rooms_gives : (l : Lfts 2) (table : Table) (budget : ℕ) (turns rooms turns' rooms' : MutBor (List ℕ)) (r : Result Panel Refused) (t : Records)
     → planner.PromisedRooms l table budget turns rooms r turns' rooms' → check table ≡ taken t → is_budget budget ≡ true
     → HasRoom turns.now rooms.now
     → RoomsBy (with_budget t budget) turns.now rooms.now (panel_says r) turns'.now rooms'.now
@@ -87,7 +89,7 @@ cuddlelamb_rooms_gives table budget turns rooms turns' rooms' r t promise e h la
 -- the budget beside the table is the one that the rooms are told with
 
 module _ (table : Table) (budget : ℕ) (own : is_budget table.budget ≡ true) (beside : is_budget budget ≡ true) where
-  pub rooms_as_its_own : (l l* : Lfts 2) (turns rooms a b a' b' : MutBor (List ℕ)) (r s : Panel)
+  pub rooms_as_its_own : (l l* : Lfts 2) (turns rooms a b a' b' : MutBor (List ℕ)) (r s : Result Panel Refused)
       → planner.PromisedRooms l table budget turns rooms r a b
       → planner.PromisedRooms l* (table_with_budget table budget) budget turns rooms s a' b'
       → (r ≡ s) × (a.now ≡ a'.now) × (b.now ≡ b'.now)
@@ -124,7 +126,7 @@ module _ (set : ℕ → Bool) (table table* : Table) (budget : ℕ) (a b : Recor
   }
 
   pub unplanned_do_not_matter_to_rooms : (l l* : Lfts 2) (turns rooms turns* rooms* turns' rooms' turns*' rooms*' : MutBor (List ℕ))
-      (r s : Panel) → planner.PromisedRooms l table budget turns rooms r turns' rooms'
+      (r s : Result Panel Refused) → planner.PromisedRooms l table budget turns rooms r turns' rooms'
       → planner.PromisedRooms l* table* budget turns* rooms* s turns*' rooms*'
       → HasRoom turns.now rooms.now → HasRoom turns*.now rooms*.now
       → SameRooms (out_of set) (with_budget a budget) (with_budget b budget) turns.now rooms.now turns*.now rooms*.now

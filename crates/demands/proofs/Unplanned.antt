@@ -13,6 +13,7 @@ use denote.Ref.{Bor, MutBor}
 use lib.Dec.{eqb}
 use lib.ListN.{drop, get_or, length, length-append, length-map, length-replicate, replicate, take}
 use lib.Seq.{take-append_seam}
+use Rattle.std.specs.Prelude.{Result}
 use Rattle.boundary.specs.Told as boundary
 use Rattle.boundary.specs.declared.PlanAnswer.{PlanAnswer}
 use Rattle.boundary.specs.declared.TextAnswer.{TextAnswer}
@@ -38,10 +39,10 @@ use Rattle.rules.specs.Lists.{find, joined, keep}
 use Rattle.rules.specs.Plan.{Fated, at_budget, course_of, fate_in, fate_told, fates_of, numbers_of, plan_from, plan_of, runs_of, same, taken_with}
 use Rattle.rules.specs.TableText.{Records, is_budget, no_job, padded, with_budget}
 use Rattle.rules.specs.Valid.{Valid}
+use Rattle.rules.specs.declared.Refused.{Refused}
 use Rattle.rules.specs.declared.Decision.{Decision}
 use Rattle.rules.specs.declared.Job.{Job}
 use Rattle.rules.specs.declared.Table.{Table}
-use Rattle.rules.specs.declared.Written.{Written}
 use Rattle.rules.specs.Refusals.{check, read, taken}
 
 front_at : (xs ys : List ℕ) (i : ℕ) → i < length xs → get_or (xs ++ ys) i 0 ≡ get_or xs i 0
@@ -221,7 +222,7 @@ module _ (set : ℕ → Bool) where
     checked_valid t r e = ((check_exactly t r).0 e).0
 
     module _ (lifetimes lifetimes* : Lfts 2) (order order* fates fates* order' order*' fates' fates*' : MutBor (List ℕ))
-        (d e : Decision) where
+        (d e : Result Decision Refused) where
       pub unplanned_do_not_matter_to_plan_into :
           planner.Promised lifetimes table budget order fates d order' fates'
           → planner.Promised lifetimes* table* budget order* fates* e order*' fates*'
@@ -294,7 +295,7 @@ module _ (set : ℕ → Bool) where
         (rw same without*) (rw (listed_at_own text a agree.first) x)
         (rw one (rw (listed_at_own text* b agree.second) y)))
 
-  module _ (lifetimes lifetimes* : Lfts 2) (text text* : Bor (List ℕ)) (out out* after after* : MutBor (List ℕ)) (w v : Written) (a b : Records)
+  module _ (lifetimes lifetimes* : Lfts 2) (text text* : Bor (List ℕ)) (out out* after after* : MutBor (List ℕ)) (w v : Result ℕ Refused) (a b : Records)
       (agree : BothAgree set (read text.now) (read text*.now) a b) where
     pub unplanned_do_not_matter_to_list : a.budget ≡ b.budget
         → listing.Promised lifetimes text out w after → listing.Promised lifetimes* text* out* v after*

@@ -2,19 +2,26 @@
 -- other bytes and the 21 at most of each number make at most 23 a number, and its tab line is the line without its letter and the
 -- tab behind it. Assumes nothing.
 use mathlib.Core.List.{List, [], ◌++◌}
-use mathlib.Core.Path.{◌≡◌, ap}
+use mathlib.Core.Path.{◌≡◌, ap, refl}
 use Prim.Native.Nat.{ℕ, zero, suc, ◌+◌, ◌-◌, ◌*◌, ◌/◌, ◌≤◌, ◌<◌}
 use native.Mathlib.Nat.{div-mul-le_self, suc-mul}
 use native.Mathlib.Omega.{arith}
 use lib.ListN.{length, drop, length-append, length-drop, take}
 use lib.Seq.{length-take-le, sets}
-use Rattle.digits.proofs.LinesOfRows.{line_stored, no_line_from}
+use Rattle.std.specs.Prelude.{None, Option, Some}
+use Rattle.digits.proofs.LinesOfRows.{line_stored, lines_of_rows, no_line_from}
 use Rattle.digits.proofs.TabLine.{line_of_tab_line}
-use Rattle.digits.specs.Rows.{row_lines, rows_of, tab_rows}
+use Rattle.digits.specs.Rows.{line_of, row_lines, rows_of, rows_text, tab_rows}
 use Rattle.grammar.proofs.LineText.{length_line}
 use Rattle.rules.specs.Lists.{joined}
 use Rattle.rules.specs.Rooms.{tab_line}
 use Rattle.rules.specs.TableText.{line_text}
+
+-- the lines of a letter, or the tab lines, by the line of one row
+pub rows_are : (letter : Option ℕ) (fields : ℕ) (ns : List ℕ) → rows_text letter fields ns ≡ lines_of_rows (line_of letter) fields ns
+unfolding row_lines tab_rows
+rows_are (Some letter) fields ns = refl
+rows_are None fields ns = refl
 
 module _ (letter fields : ℕ) (some_field : 1 ≤ fields) where
   -- less than a row from a place on

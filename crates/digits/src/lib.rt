@@ -2,39 +2,30 @@
 #![tactic(auto)]
 
 ghost use Rattle.std.specs.Prelude.{◌≡◌, ℕ, ◌+◌, ◌≤◌, length};
-ghost use Rattle.digits.specs.Rows.{most_numbers, row_lines, tab_rows};
+ghost use Rattle.digits.specs.Rows.{most_numbers, row_lines, rows_text, tab_rows};
 ghost use Rattle.grammar.specs.Put.{put};
 ghost use Rattle.rules.specs.Rooms.{tab_line};
 ghost use Rattle.rules.specs.TableText.{digits_of, line_text};
 
-// How many digits a number has, counted two at a time: each line is counted before it is written.
+// How many digits a number has: each line is counted before it is written.
 pub fn width(n: u64) -> usize
     ensures { result ≡ length (digits_of n) }
 {
-    let mut rest = n;
-    let mut count: usize = 1;
-    while 100 <= rest {
-        rest = rest / 100;
-        count += 2;
+    match n.checked_ilog10() {
+        Some(power) => power as usize + 1,
+        None => 1,
     }
-    if 10 <= rest {
-        return count + 1;
-    }
-    count
 }
 
-// Fills a part with the digits of a number, from the last to the first. The digit 0 is byte 48.
+// Fills a part with the digits of a number, from the last to the first.
 fn fill(part: &mut [u8], n: u64)
     requires { length part.old ≡ length (digits_of n) }
     ensures { part.new ≡ digits_of n }
 {
     let mut rest = n;
-    let mut left = part.len();
-    while 0 < left {
-        let place = left - 1;
-        part[place] = (48 + rest % 10) as u8;
-        rest = rest / 10;
-        left = place;
+    for place in (0..part.len()).rev() {
+        part[place] = b'0' + (rest % 10) as u8;
+        rest /= 10;
     }
 }
 
@@ -54,10 +45,8 @@ pub fn line_length(numbers: &[u64]) -> usize
     ensures { (letter : ℕ) → result ≡ length (line_text letter numbers.now) }
 {
     let mut bytes: usize = 2;
-    let mut counted = 0;
-    while counted < numbers.len() {
-        bytes += 1 + width(numbers[counted]);
-        counted += 1;
+    for n in numbers {
+        bytes += 1 + width(*n);
     }
     bytes
 }
@@ -70,11 +59,9 @@ pub fn put_line(out: &mut [u8], at: usize, letter: u8, numbers: &[u64]) -> usize
 {
     out[at] = letter;
     let mut next = at + 1;
-    let mut written = 0;
-    while written < numbers.len() {
+    for n in numbers {
         out[next] = b'\t';
-        next = put_number(out, next + 1, numbers[written]);
-        written += 1;
+        next = put_number(out, next + 1, *n);
     }
     out[next] = b'\n';
     next + 1
@@ -86,29 +73,10 @@ pub fn rows_length(numbers: &[u64], fields: usize) -> usize
     ensures { (letter : ℕ) → result ≡ length (row_lines letter fields numbers.now) }
 {
     let mut bytes: usize = 0;
-    let mut counted = 0;
-    while fields <= numbers.len() - counted {
-        let end = counted + fields;
-        bytes += line_length(&numbers[counted..end]);
-        counted = end;
+    for line in numbers.chunks_exact(fields) {
+        bytes += line_length(line);
     }
     bytes
-}
-
-// Writes lines of one letter at a place, so many numbers to a line, and hands back the place behind them.
-pub fn put_rows(out: &mut [u8], at: usize, letter: u8, numbers: &[u64], fields: usize) -> usize
-    requires { (1 ≤ fields) × (at + length (row_lines letter fields numbers.now) ≤ length out.old) }
-    ensures { (result ≡ at + length (row_lines letter fields numbers.now))
-        × (out.new ≡ put out.old at (row_lines letter fields numbers.now)) }
-{
-    let mut next = at;
-    let mut written = 0;
-    while fields <= numbers.len() - written {
-        let end = written + fields;
-        next = put_line(out, next, letter, &numbers[written..end]);
-        written = end;
-    }
-    next
 }
 
 // Writes a tab line at a place, and hands back the place behind it: the digits of its first number, then a line of the others,
@@ -131,18 +99,25 @@ pub fn tab_rows_length(numbers: &[u64], fields: usize) -> usize
     rows_length(numbers, fields) - 2 * (numbers.len() / fields)
 }
 
-// Writes tab lines at a place, so many numbers to a line, and hands back the place behind them.
-pub fn put_tab_rows(out: &mut [u8], at: usize, numbers: &[u64], fields: usize) -> usize
-    requires { (1 ≤ fields) × (at + length (tab_rows fields numbers.now) ≤ length out.old) }
-    ensures { (result ≡ at + length (tab_rows fields numbers.now))
-        × (out.new ≡ put out.old at (tab_rows fields numbers.now)) }
+// Writes lines at a place, so many numbers to a line, and hands back the place behind them: lines of a letter, or tab lines
+// where there is none.
+pub fn put_rows(
+    out: &mut [u8],
+    at: usize,
+    letter: Option<u8>,
+    numbers: &[u64],
+    fields: usize,
+) -> usize
+    requires { (1 ≤ fields) × (at + length (rows_text letter fields numbers.now) ≤ length out.old) }
+    ensures { (result ≡ at + length (rows_text letter fields numbers.now))
+        × (out.new ≡ put out.old at (rows_text letter fields numbers.now)) }
 {
     let mut next = at;
-    let mut first = 0;
-    while fields <= numbers.len() - first {
-        let end = first + fields;
-        next = put_tab_line(out, next, &numbers[first..end]);
-        first = end;
+    for row in numbers.chunks_exact(fields) {
+        next = match letter {
+            Some(letter) => put_line(out, next, letter, row),
+            None => put_tab_line(out, next, row),
+        };
     }
     next
 }

@@ -1,5 +1,4 @@
 pub mod Searches
-pub mod Halved
 pub mod Parts
 pub mod Sums
 pub mod Moved

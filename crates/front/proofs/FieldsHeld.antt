@@ -11,9 +11,10 @@ use Prim.Native.Nat.{ℕ, suc, ◌+◌, ◌≤◌, ◌<◌}
 use denote.Ref.{Bor}
 use lib.Dec.{ltb}
 use lib.ListN.{length, drop, get_or}
+use Rattle.std.specs.Prelude.{Result}
 use Rattle.rules.specs.Answers.{Answer, field_says, good, refused}
 use Rattle.rules.specs.TableText.{is_letter, is_number, line_feed, lines_of, number_in, tab, value_from}
-use Rattle.rules.specs.declared.Field.{Field}
+use Rattle.rules.specs.declared.Refused.{Refused}
 use Rattle.rules.specs.declared.Refusal.{Refusal}
 use Rattle.text.proofs.FieldPlaces.{field_behind, field_taken, letter_behind, letter_taken, other_end_refused, unended_last_refused}
 use Rattle.text.specs.FieldPlaces.{field_answer, field_at, fields_at, line_letter, place_at, place_behind}
@@ -49,7 +50,7 @@ module _ {text : Bor (List ℕ)} {reader : Reader} (l : ℕ) (some_line : 1 ≤ 
       taken_here : (kind : Kind) → taken_by reader kind ≡ taken_at text.now at kind
       taken_here kind = ap (λ (r : Reader). taken_by r kind) started.reader
 
-      pub next_answers_the_field : {r : Field} → Next reader (kind_at text.now l k) r
+      pub next_answers_the_field : {r : Result ℕ Refused} → Next reader (kind_at text.now l k) r
           → field_says r ≡ field_answer l (number_in (field_at text.now l k))
       next_answers_the_field n =
           n.field
@@ -57,7 +58,7 @@ module _ {text : Bor (List ℕ)} {reader : Reader} (l : ℕ) (some_line : 1 ≤ 
           (taken_here (kind_at text.now l k) ∙ taken_number (ltb (suc k) (length (fields_at text.now l))) text.now at)
           ∙ field_taken text.now l some_line ended k there
 
-      pub next_refuses_another_kind : {r : Field} → Next reader (other_kind_at text.now l k) r
+      pub next_refuses_another_kind : {r : Result ℕ Refused} → Next reader (other_kind_at text.now l k) r
           → field_says r ≡ refused Refusal.Shape l []
       next_refuses_another_kind n =
           n.field
@@ -78,7 +79,7 @@ module _ {text : Bor (List ℕ)} {reader : Reader} (l : ℕ) (some_line : 1 ≤ 
       }
 
     module _ (started : Started text (place_at text.now l 0) reader) where
-      pub next_answers_the_letter : {r : Field} → Next reader Kind.Letter r → field_says r ≡ field_answer l (line_letter text.now l)
+      pub next_answers_the_letter : {r : Result ℕ Refused} → Next reader Kind.Letter r → field_says r ≡ field_answer l (line_letter text.now l)
       unfolding taken_at
       next_answers_the_letter n =
           n.field
@@ -97,7 +98,7 @@ module _ {text : Bor (List ℕ)} {reader : Reader} (l : ℕ) (some_line : 1 ≤ 
 
   -- "no line feed at the end": the last field of what stands behind the last line feed
   pub next_refuses_without_a_line_feed : l ≡ length (lines_of text.now) → (k : ℕ) → suc k ≡ length (fields_at text.now l)
-      → Started text (place_at text.now l k) reader → {r : Field} → Next reader Kind.Last r
+      → Started text (place_at text.now l k) reader → {r : Result ℕ Refused} → Next reader Kind.Last r
       → field_says r ≡ refused Refusal.Shape l []
   unfolding taken_at
   next_refuses_without_a_line_feed last_Line k last started n =
@@ -142,7 +143,7 @@ refused_field_told text place Kind.Letter refused =
 refused_field_told text place Kind.Number refused = refused_number_told text place tab refused
 refused_field_told text place Kind.Last refused = refused_number_told text place line_feed refused
 
-module _ (reader : Reader) (kind : Kind) (r : Field) (n : Next reader kind r) (refused : ¬ ((field_says r).number ≡ 0)) where
+module _ (reader : Reader) (kind : Kind) (r : Result ℕ Refused) (n : Next reader kind r) (refused : ¬ ((field_says r).number ≡ 0)) where
   told : taken_by reader kind ≡ refused_field reader.place
   told =
       refused_field_told reader.text.now reader.place kind

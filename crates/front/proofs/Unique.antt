@@ -13,12 +13,13 @@ use seplogic.Ra.Ura.{Ura}
 use prog.Memory.{Memory}
 use prog.Routine.{Routine}
 use Rattle.laws.proofs.Unique.{field_unique}
-use Rattle.rules.specs.declared.Field.{Field}
+use Rattle.std.specs.Prelude.{Result}
+use Rattle.rules.specs.declared.Refused.{Refused}
 use Rattle.text.specs.Fields.{FieldsTold}
 use Rattle.text.specs.declared.Cursor.{Cursor}
 use Rattle.text.specs.declared.FieldTaken.{FieldTaken}
 use Rattle.front.specs.Reading.{Moved, Next, Placed, Started, Took}
-use Rattle.front.specs.declared.ClockLine.{ClockLine}
+use Rattle.front.specs.declared.Clock.{Clock}
 use Rattle.front.specs.declared.Kind.{Kind}
 use Rattle.front.specs.declared.Reader.{Reader}
 use Rattle.front.proofs.WholeText.{clock_line_unique}
@@ -35,7 +36,7 @@ module _ {M : Type 1} {𝓤 : Ura M} (𝓛 : Logic 𝓤) (mem : Memory → SProp
       → (start.clauses 𝓛 mem run κs (text, (at, tt))).ensures tt r (text, (at, tt)) ≡ fact 𝓤 (Started text at r)
   start_says text at r = refl
 
-  pub next_says : (reader : Reader) (kind : Kind) (r : Field)
+  pub next_says : (reader : Reader) (kind : Kind) (r : Result ℕ Refused)
       → (next.clauses 𝓛 mem run κs (reader, (kind, tt))).ensures tt r (reader, (kind, tt)) ≡ fact 𝓤 (Next reader kind r)
   next_says reader kind r = refl
 
@@ -55,7 +56,7 @@ module _ {M : Type 1} {𝓤 : Ura M} (𝓛 : Logic 𝓤) (mem : Memory → SProp
 pub start_unique : (text : Bor (List ℕ)) (at : Cursor) (r s : Reader) → Started text at r → Started text at s → r ≡ s
 start_unique text at r s p q = p.reader ∙ sym q.reader
 
-pub next_unique : (reader : Reader) (kind : Kind) (r s : Field) → Next reader kind r → Next reader kind s → r ≡ s
+pub next_unique : (reader : Reader) (kind : Kind) (r s : Result ℕ Refused) → Next reader kind r → Next reader kind s → r ≡ s
 next_unique reader kind r s p q = field_unique r s (p.field ∙ sym q.field)
 
 pub moved_unique : (reader : Reader) (kind : Kind) (r s : Reader) → Moved reader kind r → Moved reader kind s → r ≡ s
@@ -75,9 +76,9 @@ take_unique text at kind r s p q =
     known_by_parts r s e f = rw (e, f)
 
 -- what the promise of `clock_and_budget` tells a caller of an answer r
-abbrev pub Promised : Lfts 1 → Bor (List ℕ) → ClockLine → Type 0
+abbrev pub Promised : Lfts 1 → Bor (List ℕ) → Result Clock Refused → Type 0
 Promised lifetime text r = Learnt lifetime (text, tt) r (text, tt)
 
-pub clock_and_budget_unique : (lifetime : Lfts 1) (text : Bor (List ℕ)) (r s : ClockLine)
+pub clock_and_budget_unique : (lifetime : Lfts 1) (text : Bor (List ℕ)) (r s : Result Clock Refused)
     → Promised lifetime text r → Promised lifetime text s → r ≡ s
 clock_and_budget_unique lifetime text r s p q = clock_line_unique r s (p ∙ sym q)

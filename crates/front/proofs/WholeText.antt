@@ -10,25 +10,25 @@ use lib.ListN.{get_or}
 use Rattle.grammar.proofs.Accepted.{taken_exactly, valid_reached}
 use Rattle.grammar.proofs.Stopped.{Reached, Stopped, accepted_exactly, after, at_item, at_items_end, at_once, refused_where_stopped}
 use Rattle.laws.proofs.Unique.{refusal_not_0, refusal_unique}
-use Rattle.rules.specs.Answers.{Answer, good, refused}
+use Rattle.std.specs.Prelude.{Result, Ok, Err}
+use Rattle.rules.specs.Answers.{Answer, good, refused, refuses}
 use Rattle.rules.specs.Refusals.{Before, Item, Judged, Taken, accept, accepted, added, and_then, at_end, items_in, nothing, one, read, read_up_to, refused_at, refused_for, take_from, take_from_up_to, taken}
 use Rattle.rules.specs.TableText.{Record, Records, lined, lines_of}
 use Rattle.rules.specs.Valid.{Valid}
 use Rattle.rules.specs.declared.Refusal.{Refusal}
 use Rattle.front.specs.ClockLine.{clock_line_says, first_line, first_of, line_one_says}
-use Rattle.front.specs.declared.ClockLine.{ClockLine}
+use Rattle.rules.specs.declared.Refused.{Refused}
+use Rattle.front.specs.declared.Clock.{Clock}
 
 -- an answer is known by what it says
-pub clock_line_unique : (a b : ClockLine) → clock_line_says a ≡ clock_line_says b → a ≡ b
-clock_line_unique (ClockLine.Clock c d) (ClockLine.Clock e f) h =
-    ap (λ (a : Answer). ClockLine.Clock (get_or a.values 0 0) (get_or a.values 1 0)) h
-clock_line_unique (ClockLine.Clock c d) (ClockLine.Refused why line) h =
-    absurd (refusal_not_0 why (ap (λ (a : Answer). a.number) (sym h)))
-clock_line_unique (ClockLine.Refused why line) (ClockLine.Clock c d) h =
-    absurd (refusal_not_0 why (ap (λ (a : Answer). a.number) h))
-clock_line_unique (ClockLine.Refused why line) (ClockLine.Refused other at) h =
-    ap (λ w. ClockLine.Refused w line) (refusal_unique why other (ap (λ (a : Answer). a.number) h))
-    ∙ ap (ClockLine.Refused other) (ap (λ (a : Answer). a.line) h)
+pub clock_line_unique : (a b : Result Clock Refused) → clock_line_says a ≡ clock_line_says b → a ≡ b
+clock_line_unique (Ok c) (Ok d) h =
+    ap (λ (a : Answer). Ok (record { clock = get_or a.values 0 0; budget = get_or a.values 1 0 })) h
+clock_line_unique (Ok c) (Err r) h = absurd (refusal_not_0 r.why (ap (λ (a : Answer). a.number) (sym h)))
+clock_line_unique (Err r) (Ok c) h = absurd (refusal_not_0 r.why (ap (λ (a : Answer). a.number) h))
+clock_line_unique (Err r) (Err other) h =
+    ap (λ w. refuses w r.line) (refusal_unique r.why other.why (ap (λ (a : Answer). a.number) h))
+    ∙ ap (refuses other.why) (ap (λ (a : Answer). a.line) h)
 
 -- the first of items that are all accepted
 first_accepted : {b last : Before} {i : Item} {is : List Item} → Reached b (i ∷ is) last
@@ -81,19 +81,23 @@ refused_at_line_one text why = (
   λ e. stopped_items (items_in (lines_of text)) why ((refused_where_stopped 1 nothing (items_in (lines_of text)) why 1).0 e),
 )
 
+-- the answer of a table: its clock and its budget
+abbrev pub clock_of : Records → Result Clock Refused
+clock_of r = Ok (record { clock = r.clock; budget = r.budget })
+
 -- The same of any answer that the promise of `clock_and_budget` allows.
 module _ (text : List ℕ) where
-  pub answer_of_table : (r : Records) (a : ClockLine) → clock_line_says a ≡ first_line text → read text ≡ taken r
-      → a ≡ ClockLine.Clock r.clock r.budget
+  pub answer_of_table : (r : Records) (a : Result Clock Refused) → clock_line_says a ≡ first_line text → read text ≡ taken r
+      → a ≡ clock_of r
   answer_of_table r a promised e =
-      clock_line_unique a (ClockLine.Clock r.clock r.budget) (promised ∙ clock_of_table text r e)
+      clock_line_unique a (clock_of r) (promised ∙ clock_of_table text r e)
 
-  pub answer_refused : (why : Refusal) (line : ℕ) → clock_line_says (ClockLine.Refused why line) ≡ first_line text
+  pub answer_refused : (why : Refusal) (line : ℕ) → clock_line_says (refuses why line) ≡ first_line text
       → (line ≡ 1) × (read text ≡ refused_at why 1)
   unfolding read_up_to first_line
   answer_refused why line promised = refused_items (items_in (lines_of text)) why line (sym promised)
 
-  pub answer_of_refused : (why : Refusal) (a : ClockLine) → clock_line_says a ≡ first_line text → read text ≡ refused_at why 1
-      → a ≡ ClockLine.Refused why 1
+  pub answer_of_refused : (why : Refusal) (a : Result Clock Refused) → clock_line_says a ≡ first_line text → read text ≡ refused_at why 1
+      → a ≡ refuses why 1
   answer_of_refused why a promised e =
-      clock_line_unique a (ClockLine.Refused why 1) (promised ∙ (refused_at_line_one text why).1 e)
+      clock_line_unique a (refuses why 1) (promised ∙ (refused_at_line_one text why).1 e)

@@ -1,15 +1,15 @@
 -- What the rules say of a text's first line alone: the clock and the budget of its T, or the refusal of line 1.
-use Rattle.std.specs.Prelude.{List, [], ◌∷◌, ℕ}
-use Rattle.rules.specs.Answers.{Answer, good, refused}
+use Rattle.std.specs.Prelude.{List, Result, [], ◌∷◌, ℕ}
+use Rattle.rules.specs.Answers.{Answer, good, refused, says}
 use Rattle.rules.specs.Refusals.{Item, Judged, accept, accepted, items_in, nothing, refused_for}
 use Rattle.rules.specs.TableText.{lines_of}
 use Rattle.rules.specs.declared.Refusal.{Refusal}
-use Rattle.front.specs.declared.ClockLine.{ClockLine}
+use Rattle.rules.specs.declared.Refused.{Refused}
+use Rattle.front.specs.declared.Clock.{Clock}
 
 -- The number, the line and the values of each case: the clock and the budget.
-abbrev pub clock_line_says : ClockLine → Answer
-clock_line_says (ClockLine.Clock clock budget) = good (clock ∷ budget ∷ [])
-clock_line_says (ClockLine.Refused why line) = refused why line []
+abbrev pub clock_line_says : Result Clock Refused → Answer
+clock_line_says = says (λ c. c.clock ∷ c.budget ∷ []) []
 
 -- line 1, once it is judged
 unfoldable pub line_one_says : Judged → Answer

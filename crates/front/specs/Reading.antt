@@ -1,10 +1,10 @@
 -- Document 01, "The table text": "one reader keeps the text and the reading place together". What each call over a reader
 -- promises, by the cursor's definitions: each promise says the whole value that is handed back.
-use Rattle.std.specs.Prelude.{List, ◌≡◌, ℕ}
+use Rattle.std.specs.Prelude.{List, Result, ◌≡◌, ℕ}
 use Rattle.std.specs.Borrow.{Bor}
 use Rattle.rules.specs.Answers.{field_says}
 use Rattle.rules.specs.TableText.{line_feed, tab}
-use Rattle.rules.specs.declared.Field.{Field}
+use Rattle.rules.specs.declared.Refused.{Refused}
 use Rattle.text.specs.Fields.{FieldsTold, letter_at, number_at, taken_says}
 use Rattle.text.specs.declared.Cursor.{Cursor}
 use Rattle.text.specs.declared.FieldTaken.{FieldTaken}
@@ -34,7 +34,7 @@ pub record Started (text : Bor (List ℕ)) (place : Cursor) (r : Reader) : Type 
   pub reader : r ≡ reader_at text place
 
 -- "a field is either a number or the refusal of its line"
-pub record Next (reader : Reader) (kind : Kind) (r : Field) : Type 0 where
+pub record Next (reader : Reader) (kind : Kind) (r : Result ℕ Refused) : Type 0 where
   pub field : field_says r ≡ (taken_by reader kind).says
 
 -- "the reading place moves on with each field taken": the text stays; behind a refused field the place stays too

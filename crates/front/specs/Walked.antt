@@ -1,9 +1,9 @@
 -- A walk through a text, field by field: what is taken of each, which line each place stands in, and which kind each field is.
-use Rattle.std.specs.Prelude.{cond, List, [], ◌∷◌, ◌≡◌, ℕ, suc, ◌+◌, ◌≤◌, eqb, ltb, length, take}
+use Rattle.std.specs.Prelude.{cond, List, Result, [], ◌∷◌, ◌≡◌, ℕ, suc, ◌+◌, ◌≤◌, eqb, ltb, length, take}
 use Rattle.rules.specs.Answers.{field_says}
 use Rattle.rules.specs.Lists.{keep}
 use Rattle.rules.specs.TableText.{line_feed}
-use Rattle.rules.specs.declared.Field.{Field}
+use Rattle.rules.specs.declared.Refused.{Refused}
 use Rattle.text.specs.FieldPlaces.{fields_at}
 use Rattle.text.specs.Fields.{FieldsTold}
 use Rattle.text.specs.declared.Cursor.{Cursor}
@@ -28,7 +28,7 @@ walked_from text place (kind ∷ kinds) = taken_at text place kind ∷ walked_fr
 -- the reader's way: any fields, readers and places that the promises of `next`, `moved` and `place` allow
 pub data ReaderTakes : Reader → List Kind → List FieldsTold → Type 0 where
   ended : {reader : Reader} → ReaderTakes reader [] []
-  goes_on : {reader behind : Reader} {kind : Kind} {kinds : List Kind} {field : Field} {place : Cursor} {more : List FieldsTold}
+  goes_on : {reader behind : Reader} {kind : Kind} {kinds : List Kind} {field : Result ℕ Refused} {place : Cursor} {more : List FieldsTold}
       → Next reader kind field → Moved reader kind behind → Placed behind place → ReaderTakes behind kinds more
       → ReaderTakes reader (kind ∷ kinds) (record { says = field_says field; next = place } ∷ more)
 

@@ -5,14 +5,13 @@
 
 ghost use Rattle.std.specs.Prelude.{◌≡◌, ◌<◌, length};
 ghost use Rattle.front.specs.ClockLine.{clock_line_says, first_line, line_one_says};
-ghost use Rattle.front.specs.Reading.{Moved, Next, Placed, Started, Took, taken_at};
-ghost use Rattle.rules.specs.Answers.{field_says};
+ghost use Rattle.front.specs.Reading.{Moved, Next, Placed, Started, Took, taken_by};
 ghost use Rattle.rules.specs.Refusals.{accept, nothing, one};
 ghost use Rattle.rules.specs.TableText.{Record};
 ghost use Rattle.text.specs.Fields.{taken_says};
 
-use records::Judgement;
-use rules::{Field, MOST_JOBS, Refusal};
+use records::Standing;
+use rules::{Refusal, Refused};
 use text::{Cursor, FieldTaken, LETTER_T, Parsed};
 
 // The text, and the reading place in it.
@@ -30,66 +29,54 @@ pub enum Kind {
     Last,
 }
 
-// The T line's clock and budget, or the refusal of line 1.
-#[derive(Clone, Copy)]
-pub enum ClockLine {
-    Clock(u64, u64),
-    Refused(Refusal, u64),
+// The numbers of a T line.
+#[derive(Clone, Copy, PartialEq, Eq)]
+pub struct Clock {
+    pub clock: u64,
+    pub budget: u64,
 }
 
-// The field of a kind that stands at a place, and the place behind it.
-fn taken_at(text: &[u8], place: Cursor, kind: Kind) -> FieldTaken
-    ensures { taken_says result ≡ taken_at text.now place kind }
-{
-    match kind {
-        Kind::Letter => place.letter(text),
-        Kind::Number => place.number(text, b'\t'),
-        Kind::Last => place.number(text, b'\n'),
+// Before the first byte of a text, in line 1.
+const FIRST_PLACE: Cursor = Cursor { at: 0, line: 1 };
+
+impl Reader<'_> {
+    // The next field, and the place behind it.
+    #[tactic(auto, unfolding(crate::specs::Reading::taken_at))]
+    fn taken(self, kind: Kind) -> FieldTaken
+        ensures { taken_says result ≡ taken_by self.entry kind }
+    {
+        match kind {
+            Kind::Letter => self.place.letter(self.text),
+            Kind::Number => self.place.number(self.text, b'\t'),
+            Kind::Last => self.place.number(self.text, b'\n'),
+        }
     }
 }
 
-// The field alone.
-fn field_at(text: &[u8], place: Cursor, kind: Kind) -> Field
-    ensures { field_says result ≡ (taken_at text.now place kind).says }
-{
-    let taken = taken_at(text, place, kind);
-    taken.field
-}
-
-// The place behind it alone.
-fn place_behind(text: &[u8], place: Cursor, kind: Kind) -> Cursor
-    ensures { result ≡ (taken_at text.now place kind).next }
-{
-    let taken = taken_at(text, place, kind);
-    taken.next
-}
-
 // A reader of a text at a place: a text begins at byte 0, in line 1.
-pub fn start<'a>(text: &'a [u8], place: Cursor) -> Reader<'a>
+pub fn start(text: &[u8], place: Cursor) -> Reader<'_>
     ensures { Started text.entry place result }
 {
     Reader { text, place }
 }
 
 // The next field, which the reader leaves where it is.
-pub fn next<'a>(reader: Reader<'a>, kind: Kind) -> Field
+pub fn next(reader: Reader<'_>, kind: Kind) -> Result<u64, Refused>
     ensures { Next reader.entry kind result }
 {
-    field_at(reader.text, reader.place, kind)
+    reader.taken(kind).field
 }
 
 // The reader behind the next field; where that is refused, the reader as it was.
-pub fn moved<'a>(reader: Reader<'a>, kind: Kind) -> Reader<'a>
+pub fn moved(reader: Reader<'_>, kind: Kind) -> Reader<'_>
     ensures { Moved reader.entry kind result }
 {
-    Reader {
-        text: reader.text,
-        place: place_behind(reader.text, reader.place, kind),
-    }
+    let place = reader.taken(kind).next;
+    Reader { place, ..reader }
 }
 
 // Where the reader stands.
-pub fn place<'a>(reader: Reader<'a>) -> Cursor
+pub fn place(reader: Reader<'_>) -> Cursor
     ensures { Placed reader.entry result }
 {
     reader.place
@@ -107,58 +94,52 @@ pub fn take(text: &[u8], from: Cursor, kind: Kind) -> FieldTaken
 }
 
 // What line 1 alone says, as any line is judged after nothing: the T line's clock and budget, or the refusal.
-fn line_one(text: &[u8]) -> ClockLine
+#[tactic(auto, using(crate::proofs::FirstLine::nothing_noted, crate::proofs::FirstLine::line_one_accepted, crate::proofs::FirstLine::line_one_refused))]
+fn line_one(text: &[u8]) -> Result<Clock, Refused>
     requires { 0 < length text.now }
     ensures { clock_line_says result ≡ first_line text.now }
 {
-    let columns = [0u64; MOST_JOBS];
-    let before = records::none_standing();
-    let line = lines::accept_line(text, Cursor { at: 0, line: 1 }, before, &columns, &columns);
-    let parsed = line.parsed;
-    match parsed {
-        Parsed::Clock(clock, budget) => ClockLine::Clock(clock, budget),
-        Parsed::Refused(why, at) => ClockLine::Refused(why, at),
-        _ => ClockLine::Refused(Refusal::Order, 1),
+    let line = lines::accept_line(text, FIRST_PLACE, Standing::none(), &[])?;
+    match line.parsed {
+        Parsed::Clock(clock, budget) => Ok(Clock { clock, budget }),
+        _ => Err(Refusal::Order.at(1)),
     }
 }
 
 // A T line's numbers, judged after nothing.
-fn clock_line(clock: u64, budget: u64) -> ClockLine
+#[tactic(auto, using(crate::proofs::FirstLine::good_clock, crate::proofs::FirstLine::bad_clock))]
+fn clock_line(clock: u64, budget: u64) -> Result<Clock, Refused>
     ensures { clock_line_says result ≡ line_one_says (accept nothing (one (Record.T clock budget))) }
 {
-    let before = records::none_standing();
-    let judgement = records::judge_clock(before, clock, budget);
-    let Judgement::Bad(why) = judgement else {
-        return ClockLine::Clock(clock, budget);
-    };
-    ClockLine::Refused(why, 1)
+    match Standing::none().judge_clock(clock, budget) {
+        Ok(()) => Ok(Clock { clock, budget }),
+        Err(why) => Err(why.at(1)),
+    }
 }
 
 // What the first line alone says: the clock and the budget of the T line, or the refusal of line 1. The reader takes the
 // letter and both numbers; a line that begins with another letter is judged as a line of a table.
-pub fn clock_and_budget(text: &[u8]) -> ClockLine
+#[tactic(auto, using(crate::proofs::FirstLine::no_line, crate::proofs::FirstLine::no_letter_one, crate::proofs::FirstLine::no_clock_one, crate::proofs::FirstLine::no_budget_one, crate::proofs::FirstLine::both_numbers_one))]
+pub fn clock_and_budget(text: &[u8]) -> Result<Clock, Refused>
     ensures { clock_line_says result ≡ first_line text.now }
 {
-    if text.len() == 0 {
-        return ClockLine::Refused(Refusal::Order, 1);
+    if text.is_empty() {
+        return Err(Refusal::Order.at(1));
     }
-    let first = take(text, Cursor { at: 0, line: 1 }, Kind::Letter);
-    let letter_field = first.field;
-    let Field::Number(letter) = letter_field else {
-        return ClockLine::Refused(Refusal::Shape, 1);
+    let first = take(text, FIRST_PLACE, Kind::Letter);
+    let Ok(letter) = first.field else {
+        return Err(Refusal::Shape.at(1));
     };
     if letter != LETTER_T {
         return line_one(text);
     }
     let second = take(text, first.next, Kind::Number);
-    let clock_field = second.field;
-    let Field::Number(clock) = clock_field else {
-        return ClockLine::Refused(Refusal::Shape, 1);
+    let Ok(clock) = second.field else {
+        return Err(Refusal::Shape.at(1));
     };
     let third = take(text, second.next, Kind::Last);
-    let budget_field = third.field;
-    let Field::Number(budget) = budget_field else {
-        return ClockLine::Refused(Refusal::Shape, 1);
+    let Ok(budget) = third.field else {
+        return Err(Refusal::Shape.at(1));
     };
     clock_line(clock, budget)
 }

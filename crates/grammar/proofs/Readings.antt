@@ -4,45 +4,42 @@ use mathlib.Core.List.{List, [], ◌∷◌}
 use mathlib.Core.Path.{◌≡◌, refl, sym, ap}
 use Prim.Native.Nat.{ℕ, ◌+◌, ◌≤◌}
 use native.Mathlib.Omega.{arith}
+use Rattle.std.specs.Prelude.{Ok, Err}
 use Rattle.laws.proofs.Choices.{split}
 use Rattle.laws.proofs.Unique.{refusal_not_0, refusal_unique}
 use Rattle.rules.specs.Answers.{ReadAnswer, reading_says}
 use Rattle.rules.specs.Lists.{empty}
 use Rattle.rules.specs.Refusals.{Before, Item, Judged, Taken, accept, accepted, and_then, at_end, items_in, nothing, read, read_up_to, reading, reading_up_to, refused_at, refused_for, table_answer, table_answer_up_to, take_from, take_from_up_to, taken}
 use Rattle.rules.specs.TableText.{Records, lines_of, table_of}
-use Rattle.rules.specs.declared.Reading.{Reading}
 use Rattle.rules.specs.declared.Refusal.{Refusal}
+use Rattle.rules.specs.declared.Refused.{Refused}
 use Rattle.rules.specs.declared.Table.{Table}
-use Rattle.rules.specs.declared.Verdict.{Verdict}
 
-done_by : (text : List ℕ) (table : Table) (k : Taken) → read text ≡ k
-    → reading_says (record { verdict = Verdict.Done; table = table }) ≡ table_answer k
+done_by : (text : List ℕ) (table : Table) (k : Taken) → read text ≡ k → reading_says (Ok table) ≡ table_answer k
     → (t : Records) × (read text ≡ taken t) × (table ≡ table_of t)
 unfolding table_answer_up_to
 done_by text table (taken t) e q = (t, e, ap (λ (a : ReadAnswer). a.table) q)
 done_by text table (refused_at why line) e q =
     absurd (refusal_not_0 why (sym (ap (λ (a : ReadAnswer). a.answer.number) q)))
 
-pub reading_done : (text : List ℕ) (r : Reading) → reading_says r ≡ reading text → r.verdict ≡ Verdict.Done
-    → (t : Records) × (read text ≡ taken t) × (r.table ≡ table_of t)
+pub reading_done : (text : List ℕ) (table : Table) → reading_says (Ok table) ≡ reading text
+    → (t : Records) × (read text ≡ taken t) × (table ≡ table_of t)
 unfolding reading_up_to
-reading_done text r says done = done_by text r.table (read text) refl (rw done at says)
+reading_done text table says = done_by text table (read text) refl says
 
-refused_by : (text : List ℕ) (table : Table) (why : Refusal) (line : ℕ) (k : Taken) → read text ≡ k
-    → reading_says (record { verdict = Verdict.Refused why line; table = table }) ≡ table_answer k
-    → read text ≡ refused_at why line
+refused_by : (text : List ℕ) (r : Refused) (k : Taken) → read text ≡ k → reading_says (Err r) ≡ table_answer k
+    → read text ≡ refused_at r.why r.line
 unfolding table_answer_up_to
-refused_by text table why line (taken rs) e q =
-    absurd (refusal_not_0 why (ap (λ (a : ReadAnswer). a.answer.number) q))
-refused_by text table why line (refused_at why' line') e q =
-    let same : why' ≡ why = refusal_unique why' why (sym (ap (λ (a : ReadAnswer). a.answer.number) q)) in
-    let same_line : line' ≡ line = sym (ap (λ (a : ReadAnswer). a.answer.line) q) in
+refused_by text r (taken rs) e q = absurd (refusal_not_0 r.why (ap (λ (a : ReadAnswer). a.answer.number) q))
+refused_by text r (refused_at why' line') e q =
+    let same : why' ≡ r.why = refusal_unique why' r.why (sym (ap (λ (a : ReadAnswer). a.answer.number) q)) in
+    let same_line : line' ≡ r.line = sym (ap (λ (a : ReadAnswer). a.answer.line) q) in
     rw e (rw (same, same_line))
 
-pub reading_refused : (text : List ℕ) (r : Reading) (why : Refusal) (line : ℕ) → reading_says r ≡ reading text
-    → r.verdict ≡ Verdict.Refused why line → read text ≡ refused_at why line
+pub reading_refused : (text : List ℕ) (r : Refused) → reading_says (Err r) ≡ reading text
+    → read text ≡ refused_at r.why r.line
 unfolding reading_up_to
-reading_refused text r why line says e = refused_by text r.table why line (read text) refl (rw e at says)
+reading_refused text r says = refused_by text r (read text) refl says
 
 -- no line is named that stands before the first
 refused_from : (line : ℕ) (b : Before) (is : List Item) (why : Refusal) (l : ℕ) → take_from line b is ≡ refused_at why l → line ≤ l

@@ -21,7 +21,7 @@ use Rattle.laws.proofs.Lookups.{each_first, each_rest}
 use Rattle.laws.proofs.Numbered.{same_place}
 use Rattle.laws.specs.Pairs.{Pairwise, among, no_pair, ◌then◌}
 use Rattle.rules.specs.Lists.{Each, Rising, keep, none_left, ◌and◌}
-use Rattle.rules.specs.Plan.{in_plan, is_of, same}
+use Rattle.rules.specs.Plan.{in_plan, is_of}
 use Rattle.rules.specs.TableText.{most_jobs, most_time, no_job}
 use Rattle.rules.specs.declared.Job.{Job}
 
@@ -75,13 +75,6 @@ module _ (changed fresh : List ℕ) where
   far_at (suc n) (suc i) h =
       let behind : n - 1 - i ≡ suc n - 1 - suc i = omega arith in
       far_at n i (omega arith) ∙ ap (λ k. get_or changed k 0) behind
-
-  -- the first of the changes that are left, and the others
-  pub far_next : (left : ℕ) → 0 < left
-      → far_first left changed fresh
-      ≡ record { place = get_or changed (left - 1) 0; key = get_or fresh (left - 1) 0 } ∷ far_first (left - 1) changed fresh
-  far_next zero h = absurd (omega arith)
-  far_next (suc n) h = let here : suc n - 1 ≡ n = omega arith in rw here
 
   more_each : {P : Change → Type 0} (k n : ℕ) → Each P (far_first (k + n) changed fresh) → Each P (far_first n changed fresh)
   more_each zero n h = rw (zero-add n) at h
@@ -196,14 +189,13 @@ pub key_reached : (key i n here : ℕ) → key ≤ cond (ltb i n) here not_plann
 key_reached key i n here h l = rw (lt-ltb i n l) at h
 
 -- The first change that is left is one of the table's jobs, at a time, and no greater than the others.
-pub first_left : (changed fresh keys : List ℕ) (all left : ℕ) → WellNoted (far_first all changed fresh) keys → left ≤ all → 0 < left
-    → (get_or changed (left - 1) 0 < most_jobs)
-    × (get_or fresh (left - 1) 0 ≤ most_time)
-    × ((key : ℕ) → key < get_or fresh (left - 1) 0 → Each (λ c. key < c.key) (far_first left changed fresh))
-first_left changed fresh keys all left well l h =
-    let first = far_next changed fresh left h in
-    let falls = rw first at (pairs_left changed fresh all left l well.no_fall) in (
-      each_first (rw first at (each_left changed fresh all left l well.below)),
-      each_first (rw first at (each_left changed fresh all left l well.times)),
-      λ key less. rw first (less and each_too (λ c m. omega arith) (pairs_first falls)),
+pub first_left : (changed fresh keys : List ℕ) (all left : ℕ) → WellNoted (far_first all changed fresh) keys → suc left ≤ all
+    → (get_or changed left 0 < most_jobs)
+    × (get_or fresh left 0 ≤ most_time)
+    × ((key : ℕ) → key < get_or fresh left 0 → Each (λ c. key < c.key) (far_first (suc left) changed fresh))
+first_left changed fresh keys all left well l =
+    let falls = pairs_left changed fresh all (suc left) l well.no_fall in (
+      each_first (each_left changed fresh all (suc left) l well.below),
+      each_first (each_left changed fresh all (suc left) l well.times),
+      λ key less. less and each_too (λ c m. omega arith) (pairs_first falls),
     )

@@ -1,11 +1,12 @@
 -- The changes of a trial as the code notes them, places of jobs with keys; and the run through the order that they make.
-use Rattle.std.specs.Prelude.{Bool, false, cond, ◌&&◌, List, [], ◌∷◌, ◌++◌, map, ◌≡◌, ℕ, zero, suc, ◌+◌, ◌*◌, ◌-◌, ◌≤◌, ◌<◌, eqb, ltb, get_or}
+use Rattle.std.specs.Prelude.{Bool, cond, ◌&&◌, List, [], ◌∷◌, ◌++◌, map, Option, Some, None, option_map, ◌≡◌, ℕ, zero, suc, ◌+◌, ◌-◌, ◌≤◌, ◌<◌, eqb, ltb, get_or}
+use Rattle.std.specs.Prelude.{false}
 use Rattle.judgements.specs.declared.Noted.{Noted}
 use Rattle.judgements.specs.declared.Run.{Run}
 use Rattle.laws.specs.Pairs.{Pairwise}
 use Rattle.rules.specs.Lists.{Each}
 use Rattle.rules.specs.Plan.{Entry}
-use Rattle.rules.specs.TableText.{most_cycles, most_holds, most_jobs, most_time, no_job}
+use Rattle.rules.specs.TableText.{most_holds, most_jobs, most_time, no_job}
 use Rattle.rules.specs.declared.Job.{Job}
 use Rattle.steps.specs.Deadlines.{timely_behind}
 
@@ -42,33 +43,29 @@ pub record WellNoted (ds : List Change) (keys : List ℕ) : Type 0 where
 abbrev pub is_next_to_go : List ℕ → Noted → ℕ → ℕ → Bool
 is_next_to_go changed noted gone place = ltb gone noted.moved && eqb place (get_or changed (noted.changes - 1 - gone) 0)
 
--- What stands for the cycles run by the end of a job that ends after its deadline.
-abbrev pub late : ℕ
-late = 1000000000000000000
-
--- What a run comes to at most: LATE, and then each entry and each change once.
-abbrev pub most_run : ℕ
-most_run = late + most_cycles * (most_jobs + most_changes)
-
--- the cycles run by the end of the job at a place, behind so many
-abbrev pub run_on : List ℕ → List ℕ → ℕ → ℕ → ℕ
+-- the cycles run by the end of the job at a place, behind so many; none if it ends after its deadline
+abbrev pub run_on : List ℕ → List ℕ → ℕ → ℕ → Option ℕ
 run_on cycles deadline run p =
-    cond (ltb (get_or deadline p 0) (run + get_or cycles p 0)) late (run + get_or cycles p 0)
+    cond (ltb (get_or deadline p 0) (run + get_or cycles p 0)) None (Some (run + get_or cycles p 0))
+
+-- a run that goes on with so many cycles
+abbrev pub going_on : ℕ → ℕ → Option ℕ → Option Run
+going_on passed gone ran = option_map (λ n. record { cycles = n; passed = passed; gone = gone }) ran
 
 -- an entry of the plan passed: it has left, or is run
-abbrev pub pass_on : List ℕ → Noted → List ℕ → List ℕ → Run → ℕ → Run
+abbrev pub pass_on : List ℕ → Noted → List ℕ → List ℕ → Run → ℕ → Option Run
 pass_on changed noted cycles deadline run p =
     cond (is_next_to_go changed noted run.gone p)
-    (record { cycles = run.cycles; passed = run.passed + 1; gone = run.gone + 1 })
-    (record { cycles = run_on cycles deadline run.cycles p; passed = run.passed + 1; gone = run.gone })
+    (Some (record { cycles = run.cycles; passed = run.passed + 1; gone = run.gone + 1 }))
+    (going_on (run.passed + 1) run.gone (run_on cycles deadline run.cycles p))
+
+-- a change run
+abbrev pub change_on : List ℕ → List ℕ → Run → ℕ → Option Run
+change_on cycles deadline run p = going_on run.passed run.gone (run_on cycles deadline run.cycles p)
 
 -- entries that run behind so many cycles end by what is due
 abbrev pub timely_entries : (Job → ℕ) → ℕ → List Entry → Bool
 timely_entries due run es = timely_behind (λ (e : Entry). e.job.cycles) (λ (e : Entry). due e.job) run es
-
--- no job has ended late so far, and those that run behind so many cycles do not
-abbrev pub still_timely : (Job → ℕ) → ℕ → List Entry → Bool
-still_timely due run es = ltb run late && timely_entries due run es
 
 -- the last of these entries are those
 pub record EndsWith (xs ys : List Entry) : Type 0 where

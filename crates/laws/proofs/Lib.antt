@@ -1,3 +1,4 @@
+pub mod Fates
 pub mod Tests
 pub mod Elements
 pub mod Unique

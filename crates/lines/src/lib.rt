@@ -2,60 +2,46 @@
 #![tactic(auto)]
 
 ghost use Rattle.std.specs.Prelude.{◌≡◌, ◌≤◌};
+ghost use Rattle.lines.specs.Step.{LineAccepted, Noted, after_parsed, count_of, fault_in};
 ghost use Rattle.records.specs.Faults.{fault_says};
 ghost use Rattle.rules.specs.Refusals.{Before};
 ghost use Rattle.rules.specs.TableText.{most_holds, most_jobs, most_speeds};
 ghost use Rattle.text.specs.Lines.{item_of};
-ghost use Rattle.lines.specs.Step.{LineAccepted, Noted, after_parsed, count_of, fault_in};
 
-use records::{Judgement, Standing};
-use rules::MOST_JOBS;
+use records::Standing;
+use rules::{Job, Refusal, Refused};
 use text::{Cursor, Line, Parsed};
 
-// The lowest refusal of what a line holds, 1 to 7, after the lines accepted so far; the columns hold their jobs' numbers
-// and requests.
-fn judge_line<'a>(
-    before: Standing,
-    parsed: Parsed,
-    numbers: &'a [u64; MOST_JOBS],
-    requests: &'a [u64; MOST_JOBS],
-) -> Judgement
-    requires { before.jobs ≤ most_jobs }
-    ensures { (b : Before) → Noted b before numbers.now requests.now → fault_says result ≡ fault_in b (item_of parsed) }
+// The lowest refusal of a record, 2 to 7, after the lines accepted so far, whose jobs these are.
+#[inline(always)]
+pub fn judge_record(before: Standing, parsed: Parsed, jobs: &[Job]) -> Result<(), Refusal>
+    ensures { (b : Before) → Noted b before jobs.now → fault_says result ≡ fault_in b (item_of parsed) }
 {
     match parsed {
-        Parsed::Clock(clock, budget) => records::judge_clock(before, clock, budget),
-        Parsed::Speed(speed) => records::judge_speed(before, speed),
-        Parsed::Job(job) => records::judge_job(before, job),
+        Parsed::Clock(clock, budget) => before.judge_clock(clock, budget),
+        Parsed::Speed(speed) => before.judge_speed(speed),
+        Parsed::Job(job) => before.judge_job(job),
         Parsed::Hold(hold) => {
-            let holder = records::holder_of(numbers, requests, before.jobs, hold.holder);
-            records::judge_hold(before, hold, holder)
+            let request = records::request_of(jobs, hold.holder);
+            before.judge_hold(hold, request)
         }
-        Parsed::Refused(why, _) => Judgement::Bad(why),
     }
 }
 
 // One line: its record, if it is accepted after the lines accepted so far, or the line's refusal.
-pub fn accept_line<'a>(
+pub fn accept_line(
     text: &[u8],
     place: Cursor,
     before: Standing,
-    numbers: &'a [u64; MOST_JOBS],
-    requests: &'a [u64; MOST_JOBS],
-) -> Line
-    requires { before.jobs ≤ most_jobs }
-    ensures { (b : Before) → Noted b before numbers.now requests.now → LineAccepted text.now place b result }
+    jobs: &[Job],
+) -> Result<Line, Refused>
+    ensures { (b : Before) → Noted b before jobs.now → LineAccepted text.now place b result }
 {
-    let line = text::record_at(text, place);
-    let parsed = line.parsed;
-    let judgement = judge_line(before, parsed, numbers, requests);
-    let Judgement::Bad(why) = judgement else {
-        return line;
-    };
-    Line {
-        parsed: Parsed::Refused(why, place.line),
-        next: place,
+    let line = text::record_at(text, place)?;
+    if let Err(why) = judge_record(before, line.parsed, jobs) {
+        return Err(why.at(place.line));
     }
+    Ok(line)
 }
 
 // How many records of its letter stand before what a line holds: where it is stored.
@@ -67,7 +53,6 @@ pub fn count_of(before: Standing, parsed: Parsed) -> usize
         Parsed::Speed(_) => before.speeds,
         Parsed::Job(_) => before.jobs,
         Parsed::Hold(_) => before.holds,
-        Parsed::Refused(_, _) => 0,
     }
 }
 
@@ -77,10 +62,9 @@ pub fn standing_after(before: Standing, parsed: Parsed) -> Standing
     ensures { result ≡ after_parsed before parsed }
 {
     match parsed {
-        Parsed::Clock(_, _) => records::after_clock(before),
-        Parsed::Speed(speed) => records::after_speed(before, speed),
-        Parsed::Job(job) => records::after_job(before, job),
-        Parsed::Hold(hold) => records::after_hold(before, hold),
-        Parsed::Refused(_, _) => before,
+        Parsed::Clock(_, _) => before.after_clock(),
+        Parsed::Speed(speed) => before.after_speed(speed),
+        Parsed::Job(job) => before.after_job(job),
+        Parsed::Hold(hold) => before.after_hold(hold),
     }
 }

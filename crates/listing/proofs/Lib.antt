@@ -2,7 +2,6 @@ mod RowsStored
 mod Orders
 mod Unplanned
 mod PlanTexts
+mod Told
 pub mod LongestListing
-pub mod Listed
-pub mod ReadTables
 pub mod Unique

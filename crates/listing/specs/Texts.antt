@@ -1,7 +1,8 @@
--- The two texts of a listing, from the numbers of their lines.
-use Rattle.std.specs.Prelude.{List, [], ◌∷◌, ◌++◌, ℕ, ◌*◌}
+-- The text of a plan's lines, from the numbers of these.
+use Rattle.std.specs.Prelude.{List, [], ◌∷◌, ◌++◌, ℕ, ◌*◌, ◌≤◌, length}
 use Rattle.digits.specs.Rows.{row_lines}
-use Rattle.rules.specs.Listing.{letter_o, letter_p, letter_r, letter_x}
+use Rattle.listing.specs.declared.PlanLines.{PlanLines}
+use Rattle.rules.specs.Listing.{letter_o, letter_p, letter_x}
 use Rattle.rules.specs.TableText.{line_text, most_jobs}
 
 -- "O job finish", "X job fate": two numbers a line
@@ -17,10 +18,12 @@ abbrev pub rows_lines : ℕ → List ℕ → List ℕ
 rows_lines letter numbers = row_lines letter row_fields numbers
 
 -- "P speed energy count; O job finish ..; X job fate"
-unfoldable pub plan_text : ℕ → ℕ → ℕ → List ℕ → List ℕ → List ℕ
-plan_text speed energy count orders others =
-    line_text letter_p (speed ∷ energy ∷ count ∷ []) ++ (rows_lines letter_o orders ++ rows_lines letter_x others)
+unfoldable pub plan_text : PlanLines → List ℕ
+plan_text l =
+    line_text letter_p (l.speed ∷ l.energy ∷ l.count ∷ [])
+    ++ (rows_lines letter_o l.orders.now ++ rows_lines letter_x l.others.now)
 
--- "A refusal prints only R number line."
-unfoldable pub refusal_text : ℕ → ℕ → List ℕ
-refusal_text number line = line_text letter_r (number ∷ line ∷ [])
+-- no more rows than there are jobs
+pub record FewRows (l : PlanLines) : Type 0 where
+  pub orders : length l.orders.now ≤ most_row_numbers
+  pub others : length l.others.now ≤ most_row_numbers

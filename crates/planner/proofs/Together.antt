@@ -12,7 +12,10 @@ use Rattle.planner.specs.Promises.{Together}
 use Rattle.planner.proofs.Answers.{part_of_leaves}
 use Rattle.planner.proofs.Unique.{Promised}
 use Rattle.rules.specs.Plan.{AfterPlanning, part_of, taken_with}
+use Rattle.rules.specs.Answers.{refuses}
 use Rattle.rules.specs.declared.Decision.{Decision}
+use Rattle.rules.specs.declared.Refused.{Refused}
+use Rattle.std.specs.Prelude.{Result}
 use Rattle.rules.specs.declared.Refusal.{Refusal}
 use Rattle.rules.specs.declared.Table.{Table}
 
@@ -23,7 +26,7 @@ front_and_behind (suc n) [] = refl
 front_and_behind (suc n) (x ∷ xs) = ap (λ (r : List ℕ). x ∷ r) (front_and_behind n xs)
 
 pub plan_into_then_hand_back : (lifetimes : Lfts 2) (table : Table) (budget : ℕ) (order fates order' fates' : MutBor (List ℕ))
-    (d : Decision) (begin at : ℕ × ℕ) (part : List ℕ) → Promised lifetimes table budget order fates d order' fates'
+    (d : Result Decision Refused) (begin at : ℕ × ℕ) (part : List ℕ) → Promised lifetimes table budget order fates d order' fates'
     → HandedBack order'.now begin d part at
     → Together (taken_with table budget) order.now fates.now begin order'.now part at
 plan_into_then_hand_back lifetimes table budget order fates order' fates' d begin at part promised handed = record {
@@ -34,5 +37,5 @@ plan_into_then_hand_back lifetimes table budget order fates order' fates' d begi
 
 -- where refused, the part is empty
 pub refused_hands_back_nothing : (order : List ℕ) (begin : ℕ × ℕ) (why : Refusal) (line : ℕ) (part : List ℕ) (at : ℕ × ℕ)
-    → HandedBack order begin (Decision.Refused why line) part at → part ≡ []
+    → HandedBack order begin (refuses why line) part at → part ≡ []
 refused_hands_back_nothing order begin why line part at handed = handed.part_is

@@ -21,16 +21,18 @@ use Rattle.planner.specs.declared.Planned.{Planned}
 use Rattle.rules.specs.Plan.{AfterPlanning, taken_with}
 use Rattle.rules.specs.Rooms.{AfterRooms}
 use Rattle.rules.specs.declared.Decision.{Decision}
+use Rattle.rules.specs.declared.Refused.{Refused}
+use Rattle.std.specs.Prelude.{Result}
 use Rattle.rules.specs.declared.Panel.{Panel}
 use Rattle.rules.specs.declared.Table.{Table}
 
 -- what the promise of `plan_into` tells a caller of a decision and the lent buffers behind the call
-abbrev pub Promised : Lfts 2 → Table → (budget : ℕ) → (order fates : MutBor (List ℕ)) → Decision → (order' fates' : MutBor (List ℕ))
+abbrev pub Promised : Lfts 2 → Table → (budget : ℕ) → (order fates : MutBor (List ℕ)) → Result Decision Refused → (order' fates' : MutBor (List ℕ))
     → Type 0
 Promised lifetimes table budget order fates r order' fates' =
     Learnt lifetimes (table, (budget, (order, (fates, tt)))) r (table, (budget, (order', (fates', tt))))
 
-pub unique_into : (lifetimes : Lfts 2) (table : Table) (budget : ℕ) (order fates a b a' b' : MutBor (List ℕ)) (r s : Decision)
+pub unique_into : (lifetimes : Lfts 2) (table : Table) (budget : ℕ) (order fates a b a' b' : MutBor (List ℕ)) (r s : Result Decision Refused)
     → Promised lifetimes table budget order fates r a b → Promised lifetimes table budget order fates s a' b'
     → (r ≡ s) × (a.now ≡ a'.now) × (b.now ≡ b'.now)
 unique_into lifetimes table budget order fates a b a' b' r s p q =
@@ -51,12 +53,12 @@ unique_plan table budget order fates begin r s b b' p q = (
 )
 
 -- what the promise of `rooms` tells a caller of the panel's answer and the lent buffers behind the call
-abbrev pub PromisedRooms : Lfts 2 → Table → (budget : ℕ) → (turns rooms : MutBor (List ℕ)) → Panel → (turns' rooms' : MutBor (List ℕ))
+abbrev pub PromisedRooms : Lfts 2 → Table → (budget : ℕ) → (turns rooms : MutBor (List ℕ)) → Result Panel Refused → (turns' rooms' : MutBor (List ℕ))
     → Type 0
 PromisedRooms lifetimes table budget turns rooms r turns' rooms' =
     telling.Learnt lifetimes (table, (budget, (turns, (rooms, tt)))) r (table, (budget, (turns', (rooms', tt))))
 
-pub unique_rooms : (lifetimes : Lfts 2) (table : Table) (budget : ℕ) (turns rooms a b a' b' : MutBor (List ℕ)) (r s : Panel)
+pub unique_rooms : (lifetimes : Lfts 2) (table : Table) (budget : ℕ) (turns rooms a b a' b' : MutBor (List ℕ)) (r s : Result Panel Refused)
     → PromisedRooms lifetimes table budget turns rooms r a b → PromisedRooms lifetimes table budget turns rooms s a' b'
     → (r ≡ s) × (a.now ≡ a'.now) × (b.now ≡ b'.now)
 unique_rooms lifetimes table budget turns rooms a b a' b' r s p q =

@@ -5,13 +5,14 @@ use mathlib.Core.List.{List}
 use mathlib.Core.Path.{◌≡◌, refl, sym, ap, ◌∙◌}
 use Prim.Native.Nat.{ℕ, ◌-◌, ◌*◌}
 use native.Mathlib.Omega.{arith}
-use lib.ListN.{get_or, take}
+use lib.ListN.{get_or}
 use Rattle.columns.specs.Columns.{TermsOf, jobs_at}
+use Rattle.columns.specs.declared.Columns.{Columns}
 use Rattle.columns.specs.declared.Terms.{Terms}
 use Rattle.entries.proofs.Sums.{cycles_of_jobs}
 use Rattle.plans.proofs.Courses.{fates_at_end}
-use Rattle.plans.specs.Courses.{CourseLeft, DecisionLeft, job_at}
-use Rattle.plans.specs.Promises.{Concluded, Marked, PlacesOfJobs, Totalled, Whole}
+use Rattle.plans.specs.Courses.{job_at}
+use Rattle.plans.specs.Promises.{Concluded, Marked, PlacesOfJobs, Totalled}
 use Rattle.rules.specs.Plan.{course_of, cycles_of, energy_at, fate_planned, in_plan, plan_from, plan_of, speed_for, run_order}
 use Rattle.rules.specs.Rooms.{last_room, room_left}
 use Rattle.rules.specs.TableText.{Records}
@@ -19,6 +20,8 @@ use Rattle.rules.specs.declared.Job.{Job}
 use Rattle.rules.specs.declared.Speed.{Speed}
 use Rattle.speeds.specs.Promises.{ChosenSpeed}
 use Rattle.speeds.specs.declared.Chosen.{Chosen}
+use Rattle.trials.specs.Promises.{planned_places}
+use Rattle.trials.specs.declared.Plan.{Plan}
 
 -- the rules' plan, part by part
 jobs_planned : (t : Records) → (plan_of t).jobs ≡ run_order t (course_of t).plan
@@ -39,45 +42,34 @@ room_at_end : (t : Records) (terms : Terms) → TermsOf t terms → (cycles : �
 unfolding last_room room_left plan_of plan_from
 room_at_end t terms of cycles all = rw (all, of.cost, of.budget)
 
-module _ (speeds : List Speed) (speed-count : ℕ) (cycles termination : List ℕ) (course : CourseLeft) (terms : Terms)
-    (chosen : Chosen) (fates : List ℕ) where
-  abbrev planned : List ℕ
-  planned = take course.totals.count course.places
-
-  abbrev told : DecisionLeft
-  told = record {
-    places = course.places;
-    count = course.totals.count;
-    fates = fates;
-    speed = chosen.speed;
-    energy = chosen.energy;
-    turns = course.turns;
-    room = terms.budget - course.totals.cycles * terms.cost;
-  }
-
-  pub steps_8_and_9 : Whole course.places course.fates → PlacesOfJobs course.totals.count course.places
-      → Totalled course.totals course.places cycles terms
-      → ChosenSpeed speeds speed-count planned cycles termination terms chosen
-      → Marked planned course.fates fates → Concluded speeds speed-count cycles termination course terms told
-  steps_8_and_9 whole placed totalled by_rule marked = record {
-    whole = record { places_whole = whole.places_whole; fates_whole = marked.whole };
+module _ {speeds : List Speed} {jobs : Columns} {terms : Terms} (p : Plan) (fates : List ℕ) (chosen : Chosen) {fates' : List ℕ}
+    (turns room : ℕ) where
+  pub steps_8_and_9 : PlacesOfJobs p → Totalled p jobs.cycles terms
+      → ChosenSpeed speeds (planned_places p) jobs.cycles jobs.termination terms chosen
+      → Marked (planned_places p) fates fates' → room ≡ terms.budget - p.totals.cycles * terms.cost
+      → Concluded speeds jobs terms turns p fates fates'
+      (record { speed = chosen.speed; energy = chosen.energy; turns = turns; room = room })
+  steps_8_and_9 placed totalled by_rule marked left = record {
     decided = λ t valid of by.
-        let jobs : jobs_at t.jobs planned ≡ (plan_of t).jobs = by.jobs ∙ sym (jobs_planned t) in
+        let in_order : jobs_at t.jobs (planned_places p) ≡ (plan_of t).jobs = by.jobs ∙ sym (jobs_planned t) in
         let found : chosen.speed ≡ (plan_of t).speed =
-        by_rule.speed t valid of ∙ speed_planned t (jobs_at t.jobs planned) jobs in
+        by_rule.speed t valid of ∙ speed_planned t (jobs_at t.jobs (planned_places p)) in_order in
         record {
           placed = placed;
-          jobs = jobs;
+          jobs = in_order;
           fates = λ i h.
               marked.marked i (omega (arith, valid.few_jobs))
-              ∙ ap (λ b. cond b fate_planned (get_or course.fates i 0)) (by.planned i h)
+              ∙ ap (λ b. cond b fate_planned (get_or fates i 0)) (by.planned i h)
               ∙ ap (cond (in_plan (job_at t i) (course_of t).plan) fate_planned) (by.fates i h)
               ∙ fates_at_end t valid i h;
           speed = found;
-          energy = by_rule.energy t of ∙ energy_planned t (jobs_at t.jobs planned) chosen.speed jobs found;
+          energy = by_rule.energy t of ∙ energy_planned t (jobs_at t.jobs (planned_places p)) chosen.speed in_order found;
           room =
-              room_at_end t terms of.terms_of course.totals.cycles
-              (totalled.total_true ∙ cycles_of_jobs cycles t.jobs of.runs-of.cycles-of planned ∙ ap cycles_of jobs);
+              left
+              ∙ room_at_end t terms of.terms_of p.totals.cycles
+              (totalled.total_true
+              ∙ cycles_of_jobs jobs.cycles t.jobs of.runs-of.cycles-of (planned_places p)
+              ∙ ap cycles_of in_order);
         };
     turns_counted = refl;
   }

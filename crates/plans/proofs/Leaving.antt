@@ -9,15 +9,22 @@ use lib.Seq.{length-take-le}
 use Rattle.columns.proofs.Entries.{length_jobs_at}
 use Rattle.columns.specs.Columns.{Column, jobs_at}
 use Rattle.steps.proofs.Planned.{fates_alone}
-use Rattle.plans.specs.Courses.{DecisionLeft}
 use Rattle.plans.specs.Promises.{DecidedAs, RoomsNoted, leaves, tells}
+use Rattle.plans.specs.declared.Decided.{Decided}
+use Rattle.laws.proofs.Fates.{as_many}
+use Rattle.rules.specs.Answers.{fate_as_number, fates_as_numbers}
+use Rattle.rules.specs.declared.Fate.{Fate}
 use Rattle.rules.specs.Plan.{course_of, fate_in, fates_of, leaves_plan, numbers_of, plan_from, plan_of}
 use Rattle.rules.specs.Rooms.{TurnRoom, last_room, leaves_rooms, rooms_of}
-use Rattle.rules.specs.TableText.{Records, most_jobs, no_job, padded}
+use Rattle.rules.specs.TableText.{Records, no_job, padded}
 use Rattle.rules.specs.declared.Decision.{Decision}
 use Rattle.rules.specs.declared.Job.{Job}
 use Rattle.rules.specs.declared.Panel.{Panel}
 use Rattle.rules.specs.declared.Speed.{Speed}
+use Rattle.std.specs.List.{take-map}
+use Rattle.std.specs.Prelude.{Ok, Option}
+use Rattle.trials.specs.Promises.{planned_places}
+use Rattle.trials.specs.declared.Plan.{Plan}
 
 -- the numbers at the places are those of the jobs there
 numbers_at : (js : List Job) (number : List ℕ) → Column (λ j. j.number) js number → (ps : List ℕ)
@@ -39,47 +46,44 @@ unfolding plan_of plan_from fates_of
 fates_planned t = fates_alone t (course_of t) t.jobs
 
 -- an answer is its three parts
-same-answer : (t : Records) (count mhz energy : ℕ) (order fates order' fates' : List ℕ) → count ≡ length (plan_of t).jobs
-    → mhz ≡ (plan_of t).speed.mhz → energy ≡ (plan_of t).energy
+same-answer : (t : Records) (d : Decision) (order fates order' fates' : List ℕ) → d.count ≡ length (plan_of t).jobs
+    → d.speed ≡ (plan_of t).speed.mhz → d.energy ≡ (plan_of t).energy
     → order' ≡ padded (length order) 0 (numbers_of (plan_of t).jobs)
     → fates' ≡ padded (length fates) 0 (fates_of (plan_of t).fates)
-    → leaves (Decision.Plan count mhz energy) order' fates' ≡ leaves_plan (plan_of t) order fates
+    → leaves (Ok d) order' fates' ≡ leaves_plan (plan_of t) order fates
 unfolding leaves_plan
-same-answer t count mhz energy order fates order' fates' c m e o f = rw (c, m, e, o, f)
+same-answer t d order fates order' fates' c m e o f = rw (c, m, e, o, f)
 
-module _ (t : Records) (d : DecisionLeft) (number : List ℕ) (decided : DecidedAs t d)
-    (of : Column (λ j. j.number) t.jobs number) (all_places : length d.places ≡ most_jobs)
-    (all_fates : length d.fates ≡ most_jobs) (few_jobs : length t.jobs ≤ most_jobs) where
-  abbrev planned : List ℕ
-  planned = take d.count d.places
+module _ {t : Records} (p : Plan) (by_job : List (Option Fate)) (d : Decided) (number : List ℕ)
+    (decided : DecidedAs t p (fates_as_numbers by_job) d)
+    (of : Column (λ j. j.number) t.jobs number) (job-count : ℕ) (counted : job-count ≡ length t.jobs) where
+  pub plan_counted : length (planned_places p) ≡ p.totals.count
+  plan_counted = length-take-le p.totals.count p.places (omega (arith, decided.placed.whole, decided.placed.few))
 
-  count_planned : d.count ≡ length (plan_of t).jobs
-  count_planned =
-      sym (length-take-le d.count d.places (omega (arith, all_places, decided.placed.few)))
-      ∙ sym (length_jobs_at t.jobs planned)
-      ∙ ap length decided.jobs
-
-  pub buffers_left : (order fates order' fates' : List ℕ) (job-count : ℕ) → job-count ≡ length t.jobs
-      → order' ≡ padded (length order) 0 (map (λ p. get_or number p 0) planned)
-      → fates' ≡ padded (length fates) 0 (take job-count d.fates)
-      → leaves (Decision.Plan d.count d.speed.mhz d.energy) order' fates' ≡ leaves_plan (plan_of t) order fates
-  buffers_left order fates order' fates' job-count e o f =
-      same-answer t d.count d.speed.mhz d.energy order fates order' fates' count_planned
+  pub buffers_left : length t.jobs ≤ length by_job → (order fates : List ℕ) {order' fates' : List ℕ}
+      → order' ≡ padded (length order) 0 (map (λ p. get_or number p 0) (planned_places p))
+      → fates' ≡ padded (length fates) 0 (fates_as_numbers (take job-count by_job))
+      → leaves (Ok (record { count = p.totals.count; speed = d.speed.mhz; energy = d.energy })) order' fates'
+      ≡ leaves_plan (plan_of t) order fates
+  buffers_left there order fates {order' = order'} {fates' = fates'} o f =
+      same-answer t _ order fates order' fates'
+      (sym plan_counted ∙ sym (length_jobs_at t.jobs (planned_places p)) ∙ ap length decided.jobs)
       (ap (λ (s : Speed). s.mhz) decided.speed) decided.energy
-      (o ∙ ap (padded (length order) 0) (numbers_at t.jobs number of planned ∙ ap numbers_of decided.jobs))
+      (o ∙ ap (padded (length order) 0) (numbers_at t.jobs number of (planned_places p) ∙ ap numbers_of decided.jobs))
       (f
       ∙ ap (padded (length fates) 0)
-      (ap (λ n. take n d.fates) e
-      ∙ front_of_column (fate_in t (course_of t)) t.jobs d.fates (omega (arith, all_fates, few_jobs)) decided.fates
+      (sym (take-map fate_as_number job-count by_job)
+      ∙ ap (λ n. take n (fates_as_numbers by_job)) counted
+      ∙ front_of_column (fate_in t (course_of t)) t.jobs (fates_as_numbers by_job) (omega (arith, as_many by_job)) decided.fates
       ∙ sym (fates_planned t)))
 
 -- the panel's answer, part by part
-same-telling : (t : Records) (count room : ℕ) (turns rooms turns' rooms' : List ℕ) → count ≡ length (rooms_of t)
-    → room ≡ last_room t → turns' ≡ padded (length turns) 0 (map (λ (r : TurnRoom). r.job.number) (rooms_of t))
+same-telling : (t : Records) (p : Panel) (turns rooms turns' rooms' : List ℕ) → p.turns ≡ length (rooms_of t)
+    → p.room ≡ last_room t → turns' ≡ padded (length turns) 0 (map (λ (r : TurnRoom). r.job.number) (rooms_of t))
     → rooms' ≡ padded (length rooms) 0 (map (λ (r : TurnRoom). r.room) (rooms_of t))
-    → tells (Panel.Told count room) turns' rooms' ≡ leaves_rooms t turns rooms
+    → tells (Ok p) turns' rooms' ≡ leaves_rooms t turns rooms
 unfolding leaves_rooms
-same-telling t count room turns rooms turns' rooms' c l n r = rw (c, l, n, r)
+same-telling t p turns rooms turns' rooms' c l n r = rw (c, l, n, r)
 
 -- the numbers of the rows' jobs
 row-numbers : (rs : List TurnRoom) → numbers_of (map (λ (r : TurnRoom). r.job) rs) ≡ map (λ (r : TurnRoom). r.job.number) rs
@@ -87,19 +91,20 @@ unfolding numbers_of
 row-numbers [] = refl
 row-numbers (r ∷ rs) = ap {B = List ℕ} (λ ns. r.job.number ∷ ns) (row-numbers rs)
 
-pub rooms_left : (t : Records) (count : ℕ) (order rooms number : List ℕ) → RoomsNoted t count order rooms
-    → Column (λ j. j.number) t.jobs number → count ≤ length rooms → (room : ℕ) → room ≡ last_room t
-    → (turns rooms₀ turns' rooms' : List ℕ) → length rooms ≡ length rooms₀
-    → turns' ≡ padded (length turns) 0 (map (λ p. get_or number p 0) (take count order))
+pub rooms_left : {t : Records} {count : ℕ} {order rooms : List ℕ} (number : List ℕ) → RoomsNoted t count order rooms
+    → Column (λ j. j.number) t.jobs number → count ≤ length rooms → {room : ℕ} → room ≡ last_room t
+    → (turns rooms₀ : List ℕ) {turns' rooms' : List ℕ} → length order ≡ length turns → length rooms ≡ length rooms₀
+    → turns' ≡ padded (length order) 0 (map (λ p. get_or number p 0) (take count order))
     → rooms' ≡ padded (length rooms) 0 (take count rooms)
-    → tells (Panel.Told count room) turns' rooms' ≡ leaves_rooms t turns rooms₀
-rooms_left t count order rooms number noted of few room last turns rooms₀ turns' rooms' whole n r =
-    same-telling t count room turns rooms₀ turns' rooms'
+    → tells (Ok (record { turns = count; room = room })) turns' rooms' ≡ leaves_rooms t turns rooms₀
+rooms_left {t} {count} {order} {rooms} number noted of few {room} last turns rooms₀ {turns' = turns'} {rooms' = rooms'} long whole n r =
+    same-telling t _ turns rooms₀ turns' rooms'
     (sym (length-take-le count rooms few)
     ∙ ap length noted.row_rooms
     ∙ length-map (rooms_of t) (λ (r : TurnRoom). r.room))
     last
     (n
+    ∙ ap (λ m. padded m 0 (map (λ p. get_or number p 0) (take count order))) long
     ∙ ap (padded (length turns) 0)
     (numbers_at t.jobs number of (take count order) ∙ ap numbers_of noted.row_jobs ∙ row-numbers (rooms_of t)))
     (r ∙ ap (λ m. padded m 0 (take count rooms)) whole ∙ ap (padded (length rooms₀) 0) noted.row_rooms)

@@ -7,11 +7,11 @@ use native.Mathlib.Omega.{arith}
 use borrow.Author.Tests.{eqb-false, eqb-true, ltb-false, ltb-true}
 use lib.Dec.{eqb, ltb}
 use lib.ListN.{get_or, length, length-map, length-set, set, take}
-use lib.Seq.{ext_get_or, get_or-set_other, get_or-set_same, get_or-take, length-take-le, take-take}
+use lib.Seq.{ext_get_or, get_or-set_other, get_or-set_same, get_or-take, length-take-le}
 use Rattle.columns.specs.Columns.{jobs_at}
 use Rattle.columns.specs.declared.Terms.{Terms}
 use Rattle.laws.proofs.Choices.{split}
-use Rattle.plans.specs.Courses.{Turns, job_at, room_by, turn_at}
+use Rattle.plans.specs.Courses.{job_at, room_by, turn_at}
 use Rattle.plans.specs.Promises.{RoomsNoted, TurnNoted, TurnsNoted, TurnsOf}
 use Rattle.rules.specs.Plan.{Turn, course, no_turn_yet, turn_of, turns}
 use Rattle.rules.specs.Rooms.{TurnRoom, room_left, rooms_of}
@@ -30,71 +30,66 @@ stored xs i n k h here there =
     ap (λ p. get_or (set xs i n) p 0) e ∙ get_or-set_same xs i n 0 (omega (arith, h, e)) ∙ here e)
     (λ g. let d = eqb-false k i g in get_or-set_other xs i k n 0 d ∙ there d)
 
-module _ (order : Turns) (over : List ℕ) (c : TurnColumns) (so_far : List ℕ) (terms : Terms) where
-  pub nothing_noted : (places rooms : List ℕ) → TurnsNoted 0 order over c so_far terms places rooms places rooms
+module _ {in_order over : List ℕ} {c : TurnColumns} {so_far : List ℕ} {terms : Terms} where
+  pub nothing_noted : (places rooms : List ℕ) → TurnsNoted 0 in_order over c so_far terms places rooms places rooms
   nothing_noted places rooms = record {
     order_whole = refl;
     rooms_whole = refl;
     place_noted = λ k h l. absurd (omega arith);
-    room_noted = λ t of k h m l. absurd (omega arith);
+    room_noted = λ t of k h l m. absurd (omega arith);
   }
 
-  module _ (i : ℕ) (places rooms places' rooms' : List ℕ) (noted : TurnsNoted i order over c so_far terms places rooms places' rooms')
-      (room : ℕ) (told : (t : Records) → TurnsOf t order over c so_far terms → room ≡ room_by t order.order (i + 1)) where
-    pub one_more_noted : (places'' rooms'' : List ℕ) → TurnNoted i (get_or order.order i 0) room places' rooms' places'' rooms''
-        → TurnsNoted (i + 1) order over c so_far terms places rooms places'' rooms''
-    one_more_noted places'' rooms'' turn =
+  module _ (i room : ℕ) {places rooms places' rooms' places'' rooms'' : List ℕ}
+      (told : (t : Records) → TurnsOf t in_order over c so_far terms → room ≡ room_by t in_order (i + 1))
+      (noted : TurnsNoted i in_order over c so_far terms places rooms places' rooms')
+      (turn : TurnNoted i (get_or in_order i 0) room places' rooms' places'' rooms'') where
+    rooms_kept : length rooms'' ≡ length rooms'
+    rooms_kept =
+        split (ltb i (length places'))
+        (λ g. ap length (turn.room_stored (ltb-true i (length places') g)) ∙ length-set rooms' i room)
+        (λ g. ap length (turn.else_kept (ltb-false i (length places') g)))
+
+    room_there : (t : Records) → TurnsOf t in_order over c so_far terms → (k : ℕ) → k < i + 1 → k < length places → k < length rooms
+        → get_or rooms'' k 0 ≡ room_by t in_order (k + 1)
+    room_there t of k h l m =
         split (ltb i (length places'))
         (λ g.
-        let e = turn.room_stored (ltb-true i (length places') g) in
-        record {
-          order_whole = places_whole;
-          rooms_whole = ap length e ∙ length-set rooms' i room ∙ noted.rooms_whole;
-          place_noted = place_there;
-          room_noted = λ t of k h m l.
-              ap (λ xs. get_or xs k 0) e
-              ∙ stored rooms' i room k (omega (arith, noted.rooms_whole))
-              (λ e. told t of ∙ ap (λ n. room_by t order.order (n + 1)) (sym e))
-              (λ d. noted.room_noted t of k (omega (arith, d)) m l);
-        })
+        ap (λ xs. get_or xs k 0) (turn.room_stored (ltb-true i (length places') g))
+        ∙ stored rooms' i room k (omega (arith, noted.rooms_whole))
+        (λ e. told t of ∙ ap (λ n. room_by t in_order (n + 1)) (sym e)) (λ d. noted.room_noted t of k (omega (arith, d)) l m))
         (λ g.
         let beyond = ltb-false i (length places') g in
-        let e = turn.else_kept beyond in
-        record {
-          order_whole = places_whole;
-          rooms_whole = ap length e ∙ noted.rooms_whole;
-          place_noted = place_there;
-          room_noted = λ t of k h m l.
-              ap (λ xs. get_or xs k 0) e ∙ noted.room_noted t of k (omega (arith, beyond, noted.order_whole)) m l;
-        })
-      where
-        places_whole : length places'' ≡ length places
-        places_whole = ap length turn.place_stored ∙ length-set places' i (get_or order.order i 0) ∙ noted.order_whole
+        ap (λ xs. get_or xs k 0) (turn.else_kept beyond)
+        ∙ noted.room_noted t of k (omega (arith, beyond, noted.order_whole)) l m)
 
-        place_there : (k : ℕ) → k < i + 1 → k < length places → get_or places'' k 0 ≡ get_or order.order k 0
-        place_there k h l =
-            ap (λ xs. get_or xs k 0) turn.place_stored
-            ∙ stored places' i (get_or order.order i 0) k (omega (arith, noted.order_whole))
-            (λ e. ap (λ n. get_or order.order n 0) (sym e)) (λ d. noted.place_noted k (omega (arith, d)) l)
+    pub one_more_noted : TurnsNoted (i + 1) in_order over c so_far terms places rooms places'' rooms''
+    one_more_noted = record {
+      order_whole = ap length turn.place_stored ∙ length-set places' i (get_or in_order i 0) ∙ noted.order_whole;
+      rooms_whole = rooms_kept ∙ noted.rooms_whole;
+      place_noted = λ k h l.
+          ap (λ xs. get_or xs k 0) turn.place_stored
+          ∙ stored places' i (get_or in_order i 0) k (omega (arith, noted.order_whole))
+          (λ e. ap (λ n. get_or in_order n 0) (sym e)) (λ d. noted.place_noted k (omega (arith, d)) l);
+      room_noted = room_there;
+    }
 
-  module _ (t : Records) (of : TurnsOf t order over c so_far terms) (places rooms places' rooms' : List ℕ)
-      (noted : TurnsNoted order.count order over c so_far terms places rooms places' rooms')
-      (turns_there : order.count ≤ length order.order) (room_for_places : order.count ≤ length places)
-      (room_for_rooms : order.count ≤ length rooms)
-      (in_order : map (turn_at t) (take order.count order.order) ≡ turns t) where
+  module _ {t : Records} (of : TurnsOf t in_order over c so_far terms) {places rooms places' rooms' : List ℕ}
+      (noted : TurnsNoted (length in_order) in_order over c so_far terms places rooms places' rooms')
+      (room_for_places : length in_order ≤ length places) (room_for_rooms : length in_order ≤ length rooms)
+      (the_table's : map (turn_at t) in_order ≡ turns t) where
     abbrev count : ℕ
-    count = order.count
+    count = length in_order
 
-    same_places : take count places' ≡ take count order.order
+    same_places : take count places' ≡ in_order
     same_places =
         let long = length-take-le count places' (omega (arith, noted.order_whole)) in
-        ext_get_or 0 (take count places') (take count order.order) (long ∙ sym (length-take-le count order.order turns_there))
+        ext_get_or 0 (take count places') in_order long
         (λ k h.
         let l : k < count = omega (arith, long, h) in
-        get_or-take count places' k 0 l ∙ noted.place_noted k l (omega arith) ∙ sym (get_or-take count order.order k 0 l))
+        get_or-take count places' k 0 l ∙ noted.place_noted k l (omega arith))
 
     turns_counted : length (turns t) ≡ count
-    turns_counted = ap length (sym in_order) ∙ length-map (take count order.order) (turn_at t) ∙ length-take-le count order.order turns_there
+    turns_counted = ap length (sym the_table's) ∙ length-map in_order (turn_at t)
 
     rows_counted : length (map (λ (r : TurnRoom). r.room) (rooms_of t)) ≡ count
     rows_counted =
@@ -109,11 +104,8 @@ module _ (order : Turns) (over : List ℕ) (c : TurnColumns) (so_far : List ℕ)
     jobs_of_turns [] = refl
     jobs_of_turns (p ∷ ps) = ap {B = List Job} (λ js. job_at t p ∷ js) (jobs_of_turns ps)
 
-    turns_taken : (k : ℕ) → k < count → map (turn_at t) (take (k + 1) order.order) ≡ take (k + 1) (turns t)
-    turns_taken k h =
-        ap (map (turn_at t)) (sym (take-take (k + 1) count order.order (omega arith)))
-        ∙ map_take (k + 1) (take count order.order)
-        ∙ ap (take (k + 1)) in_order
+    turns_taken : (k : ℕ) → map (turn_at t) (take (k + 1) in_order) ≡ take (k + 1) (turns t)
+    turns_taken k = map_take (k + 1) in_order ∙ ap (take (k + 1)) the_table's
       where
         map_take : (n : ℕ) (ps : List ℕ) → map (turn_at t) (take n ps) ≡ take n (map (turn_at t) ps)
         map_take zero ps = refl
@@ -128,7 +120,7 @@ module _ (order : Turns) (over : List ℕ) (c : TurnColumns) (so_far : List ℕ)
         let l : k < count = omega (arith, long, h) in
         get_or-take count rooms' k 0 l
         ∙ noted.room_noted t of k l (omega arith) (omega arith)
-        ∙ ap (λ is. room_left t (course t is no_turn_yet).plan) (turns_taken k l)
+        ∙ ap (λ is. room_left t (course t is no_turn_yet).plan) (turns_taken k)
         ∙ sym (room_after_turn t k (omega (arith, turns_counted))))
 
     pub rooms_noted : RoomsNoted t count places' rooms'
@@ -136,8 +128,8 @@ module _ (order : Turns) (over : List ℕ) (c : TurnColumns) (so_far : List ℕ)
       below = rw same_places of.of_jobs;
       row_jobs =
           ap (jobs_at t.jobs) same_places
-          ∙ jobs_of_turns (take count order.order)
-          ∙ ap (map (λ (i : Turn). i.job)) in_order
+          ∙ jobs_of_turns in_order
+          ∙ ap (map (λ (i : Turn). i.job)) the_table's
           ∙ sym (one_row_each_turn t);
       row_rooms = same_rooms;
     }

@@ -1,5 +1,5 @@
 mod Trail
 mod SumsBack
-mod Merged
-mod Runs
+mod Permuted
 mod Ordered
+pub mod Merged

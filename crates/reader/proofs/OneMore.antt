@@ -1,12 +1,10 @@
 -- One accepted line more, letter by letter: the record goes into the first free place of its letter, and what is noted is
 -- what the rules say of the records with it. Assumes nothing.
-use mathlib.Core.Bool.{false}
 use mathlib.Core.List.{List}
 use mathlib.Core.Path.{◌≡◌, refl, sym, ap, ◌∙◌}
 use Prim.Native.Nat.{ℕ, ◌<◌}
 use native.Mathlib.Omega.{arith}
-use lib.ListN.{length, set, length-set}
-use Rattle.columns.specs.Columns.{Column}
+use lib.ListN.{length, set}
 use Rattle.laws.proofs.Elements.{length_more}
 use Rattle.records.proofs.After.{clock_after, hold_after, job_after, speed_after}
 use Rattle.records.specs.Standing.{after_clock, after_hold, after_job, after_speed, standing_of}
@@ -17,12 +15,12 @@ use Rattle.rules.specs.declared.Hold.{Hold}
 use Rattle.rules.specs.declared.Job.{Job}
 use Rattle.rules.specs.declared.Speed.{Speed}
 use Rattle.rules.specs.declared.Table.{Table}
-use Rattle.text.specs.Lines.{is_refused, parsed_of}
+use Rattle.text.specs.Lines.{parsed_of}
 use Rattle.text.specs.declared.Cursor.{Cursor}
 use Rattle.text.specs.declared.Line.{Line}
 use Rattle.text.specs.declared.Parsed.{Parsed}
-use Rattle.lines.specs.Step.{LineAccepted, judged_as}
-use Rattle.reader.proofs.SoFar.{LineMoved, SoFar, stands_with, fits, moved, one_more_column, one_more_padded, stored}
+use Rattle.lines.specs.Step.{RecordAccepted, judged_as}
+use Rattle.reader.proofs.SoFar.{LineMoved, SoFar, stands_with, fits, moved, one_more_padded, stored}
 
 -- the table with a T, an F, a J or an H line stored
 abbrev pub clock_stored : Table → ℕ → ℕ → Table
@@ -37,13 +35,6 @@ job_stored t n j = record { clock = t.clock; budget = t.budget; speed_count = t.
 abbrev pub hold_stored : Table → ℕ → Hold → Table
 hold_stored t n h = record { clock = t.clock; budget = t.budget; speed_count = t.speed_count; job_count = t.job_count; hold_count = t.hold_count; speeds = t.speeds; jobs = t.jobs; holds = set t.holds n h }
 
-not_refused : (r : Record) → is_refused (parsed_of r) ≡ false
-unfolding is_refused
-not_refused (Record.T clock budget) = refl
-not_refused (Record.F f) = refl
-not_refused (Record.J j) = refl
-not_refused (Record.H h) = refl
-
 judged_accepted : (b : Before) (r : Record) → judged_as b (parsed_of r) ≡ accepted (with_more b r)
 unfolding judged_as
 judged_accepted b (Record.T clock budget) = refl
@@ -51,45 +42,39 @@ judged_accepted b (Record.F f) = refl
 judged_accepted b (Record.J j) = refl
 judged_accepted b (Record.H h) = refl
 
-module _ (text : List ℕ) (table : Table) (numbers requests : List ℕ) (before : Standing) (place : Cursor)
-    (so_far : SoFar text table numbers requests before place) (inside : place.at < length text) (l : Line)
-    (line : LineAccepted text place (stands_with before so_far.records) l) where
+module _ (text : List ℕ) (table : Table) (before : Standing) (place : Cursor)
+    (so_far : SoFar text table before place) (inside : place.at < length text) (l : Line)
+    (line : RecordAccepted text place (stands_with before so_far.records) l) where
   abbrev at_line : Before
   at_line = stands_with before so_far.records
 
   speeds_noted : before.speeds ≡ length so_far.records.speeds
-  speeds_noted = ap (λ (s : Standing). s.speeds) so_far.noted.state
+  speeds_noted = ap (λ (s : Standing). s.speeds) so_far.state
 
   jobs_noted : before.jobs ≡ length so_far.records.jobs
-  jobs_noted = ap (λ (s : Standing). s.jobs) so_far.noted.state
+  jobs_noted = ap (λ (s : Standing). s.jobs) so_far.state
 
   holds_noted : before.holds ≡ length so_far.records.holds
-  holds_noted = ap (λ (s : Standing). s.holds) so_far.noted.state
+  holds_noted = ap (λ (s : Standing). s.holds) so_far.state
 
   abbrev MovedTo : Record → Type 0
-  MovedTo r = LineMoved text table numbers requests before place so_far inside l line (with_more at_line r)
+  MovedTo r = LineMoved text table before place so_far inside l line (with_more at_line r)
 
   moved_by : (r : Record) → l.parsed ≡ parsed_of r → MovedTo r
   moved_by r e =
-      moved text table numbers requests before place so_far inside l line (with_more at_line r) (ap is_refused e ∙ not_refused r)
-      (ap (judged_as at_line) e ∙ judged_accepted at_line r)
+      moved text table before place so_far inside l line (with_more at_line r) (ap (judged_as at_line) e ∙ judged_accepted at_line r)
 
   -- what is stored and noted then, with the rules' own state
-  more : (r : Record) → l.parsed ≡ parsed_of r → {t : Table} {ns qs : List ℕ} → t ≡ stored (added so_far.records r)
-      → length ns ≡ most_jobs → length qs ≡ most_jobs
-      → Column (λ j. j.number) (added so_far.records r).jobs ns
-      → Column (λ j. j.request) (added so_far.records r).jobs qs
-      → SoFar text t ns qs (standing_of (with_more at_line r)) l.next
-  more r e in_places whole_ns whole_qs column_ns column_qs =
+  more : (r : Record) → l.parsed ≡ parsed_of r → {t : Table} → t ≡ stored (added so_far.records r)
+      → SoFar text t (standing_of (with_more at_line r)) l.next
+  more r e in_places =
       let m = moved_by r e in
       record {
         records = added so_far.records r;
         lines = m.lines;
         in_places = in_places;
         reached = m.reached;
-        noted = record { state = refl; rising = (fits m.reached).rising; number = column_ns; request = column_qs };
-        numbers_whole = whole_ns;
-        requests_whole = whole_qs;
+        state = refl;
         to_read = m.to_read;
         few_lines = m.few_lines;
         within = m.within;
@@ -97,12 +82,11 @@ module _ (text : List ℕ) (table : Table) (numbers requests : List ℕ) (before
       }
 
   pub clock_more : (clock budget : ℕ) → l.parsed ≡ Parsed.Clock clock budget
-      → SoFar text (clock_stored table clock budget) numbers requests (after_clock before) l.next
+      → SoFar text (clock_stored table clock budget) (after_clock before) l.next
   unfolding added
   clock_more clock budget e =
-      rw (ap after_clock so_far.noted.state ∙ sym (clock_after at_line clock budget))
-      (more (Record.T clock budget) e (ap (λ t. clock_stored t clock budget) so_far.in_places) so_far.numbers_whole
-      so_far.requests_whole so_far.noted.number so_far.noted.request)
+      rw (ap after_clock so_far.state ∙ sym (clock_after at_line clock budget))
+      (more (Record.T clock budget) e (ap (λ t. clock_stored t clock budget) so_far.in_places))
 
   pub speed_room : (f : Speed) → l.parsed ≡ Parsed.Speed f → before.speeds < most_speeds
   unfolding added
@@ -110,14 +94,13 @@ module _ (text : List ℕ) (table : Table) (numbers requests : List ℕ) (before
       omega (arith, (fits (moved_by (Record.F f) e).reached).speeds, length_more so_far.records.speeds f, speeds_noted)
 
   pub speed_more : (f : Speed) → l.parsed ≡ Parsed.Speed f
-      → SoFar text (speed_stored table before.speeds f) numbers requests (after_speed before f) l.next
+      → SoFar text (speed_stored table before.speeds f) (after_speed before f) l.next
   unfolding added
   speed_more f e =
       let fs = so_far.records.speeds in
       let full = one_more_padded most_speeds no_speed f fs (omega (arith, speed_room f e, speeds_noted)) in
-      rw (ap (λ s. after_speed s f) so_far.noted.state ∙ sym (speed_after at_line f))
-      (more (Record.F f) e (rw so_far.in_places (rw speeds_noted (rw full))) so_far.numbers_whole so_far.requests_whole
-      so_far.noted.number so_far.noted.request)
+      rw (ap (λ s. after_speed s f) so_far.state ∙ sym (speed_after at_line f))
+      (more (Record.F f) e (rw so_far.in_places (rw speeds_noted (rw full))))
 
   pub job_room : (j : Job) → l.parsed ≡ Parsed.Job j → before.jobs < most_jobs
   unfolding added
@@ -125,17 +108,13 @@ module _ (text : List ℕ) (table : Table) (numbers requests : List ℕ) (before
       omega (arith, (fits (moved_by (Record.J j) e).reached).jobs, length_more so_far.records.jobs j, jobs_noted)
 
   pub job_more : (j : Job) → l.parsed ≡ Parsed.Job j
-      → SoFar text (job_stored table before.jobs j) (set numbers before.jobs j.number) (set requests before.jobs j.request) (after_job before j) l.next
+      → SoFar text (job_stored table before.jobs j) (after_job before j) l.next
   unfolding added
   job_more j e =
       let js = so_far.records.jobs in
       let room : length js < most_jobs = omega (arith, job_room j e, jobs_noted) in
-      rw (ap (λ s. after_job s j) so_far.noted.state ∙ sym (job_after at_line j))
-      (more (Record.J j) e (rw so_far.in_places (rw jobs_noted (rw (one_more_padded most_jobs no_job j js room))))
-      (length-set numbers before.jobs j.number ∙ so_far.numbers_whole)
-      (length-set requests before.jobs j.request ∙ so_far.requests_whole)
-      (rw jobs_noted (one_more_column (λ j. j.number) js j numbers (omega (arith, so_far.numbers_whole)) so_far.noted.number))
-      (rw jobs_noted (one_more_column (λ j. j.request) js j requests (omega (arith, so_far.requests_whole)) so_far.noted.request)))
+      rw (ap (λ s. after_job s j) so_far.state ∙ sym (job_after at_line j))
+      (more (Record.J j) e (rw so_far.in_places (rw jobs_noted (rw (one_more_padded most_jobs no_job j js room)))))
 
   pub hold_room : (h : Hold) → l.parsed ≡ Parsed.Hold h → before.holds < most_holds
   unfolding added
@@ -143,11 +122,10 @@ module _ (text : List ℕ) (table : Table) (numbers requests : List ℕ) (before
       omega (arith, (fits (moved_by (Record.H h) e).reached).holds, length_more so_far.records.holds h, holds_noted)
 
   pub hold_more : (h : Hold) → l.parsed ≡ Parsed.Hold h
-      → SoFar text (hold_stored table before.holds h) numbers requests (after_hold before h) l.next
+      → SoFar text (hold_stored table before.holds h) (after_hold before h) l.next
   unfolding added
   hold_more h e =
       let hs = so_far.records.holds in
       let full = one_more_padded most_holds no_hold h hs (omega (arith, hold_room h e, holds_noted)) in
-      rw (ap (λ s. after_hold s h) so_far.noted.state ∙ sym (hold_after at_line h))
-      (more (Record.H h) e (rw so_far.in_places (rw holds_noted (rw full))) so_far.numbers_whole so_far.requests_whole
-      so_far.noted.number so_far.noted.request)
+      rw (ap (λ s. after_hold s h) so_far.state ∙ sym (hold_after at_line h))
+      (more (Record.H h) e (rw so_far.in_places (rw holds_noted (rw full))))

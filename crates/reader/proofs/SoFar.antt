@@ -1,21 +1,20 @@
 -- What holds whenever the reader is about to look at a line: the text is what its records so far and the rest of it come
 -- to, and what it has stored and noted are those records. One line more keeps that true, whichever letter it has. Assumes
 -- nothing.
-use mathlib.Core.Bool.{false}
 use mathlib.Core.List.{List, [], ◌∷◌, ◌++◌}
 use mathlib.Core.Path.{◌≡◌, refl, sym, ap, ◌∙◌}
-use Prim.Native.Nat.{ℕ, zero, suc, ◌+◌, ◌-◌, ◌≤◌, ◌<◌}
+use Prim.Native.Nat.{ℕ, suc, ◌+◌, ◌-◌, ◌≤◌, ◌<◌}
 use native.Mathlib.Omega.{arith}
 use borrow.Author.Tests.{lt-ltb}
-use lib.ListN.{length, drop, set, replicate, length-drop}
-use lib.Seq.{append_snoc, set_at}
-use Rattle.columns.specs.Columns.{Column}
+use lib.ListN.{length, drop, set, replicate, take, length-drop}
+use lib.Seq.{append_snoc, set_at, take-append_seam}
 use Rattle.grammar.proofs.Accepted.{Reachable, clock_read, nothing_read, reached_standing, valid}
 use Rattle.laws.proofs.Elements.{length_more}
 use Rattle.grammar.proofs.Lines.{items, record_rest, rest_shorter}
 use Rattle.grammar.proofs.Stopped.{after, at_once}
 use Rattle.grammar.proofs.Trips.{valid_few_holds}
 use Rattle.grammar.specs.FirstLine.{first_item, rest_of}
+use Rattle.records.specs.Standing.{standing_of}
 use Rattle.records.specs.declared.Standing.{Standing}
 use Rattle.rules.specs.Lists.{Rising, no_element}
 use Rattle.rules.specs.Refusals.{Before, Item, accept, accept_up_to, accepted, added, and_then, bad, items_in, nothing, one, read, take_from, take_from_up_to}
@@ -23,10 +22,9 @@ use Rattle.rules.specs.TableText.{Record, Records, lines_of, most_holds, most_jo
 use Rattle.rules.specs.declared.Job.{Job}
 use Rattle.rules.specs.declared.Table.{Table}
 use Rattle.text.specs.Fields.{line_behind, most_line}
-use Rattle.text.specs.Lines.{is_refused}
 use Rattle.text.specs.declared.Cursor.{Cursor}
 use Rattle.text.specs.declared.Line.{Line}
-use Rattle.lines.specs.Step.{LineAccepted, Noted, judged_as}
+use Rattle.lines.specs.Step.{RecordAccepted, Noted, judged_as}
 
 -- the records in their places; the counts come last
 abbrev pub stored : Records → Table
@@ -44,14 +42,12 @@ stored r = record {
 abbrev pub stands_with : Standing → Records → Before
 stands_with s r = record { begun = s.begun; records = r }
 
-pub record SoFar (text : List ℕ) (table : Table) (numbers requests : List ℕ) (before : Standing) (place : Cursor) : Type 0 where
+pub record SoFar (text : List ℕ) (table : Table) (before : Standing) (place : Cursor) : Type 0 where
   pub records : Records
   pub lines : List Record
   pub in_places : table ≡ stored records
   pub reached : Reachable (stands_with before records) lines
-  pub noted : Noted (stands_with before records) before numbers requests
-  pub numbers_whole : length numbers ≡ most_jobs
-  pub requests_whole : length requests ≡ most_jobs
+  pub state : before ≡ standing_of (stands_with before records)
   pub to_read : read text ≡ take_from place.line (stands_with before records) (items_in (lines_of (drop place.at text)))
   pub few_lines : place.line + place.line ≤ place.at + 2
   pub within : place.at ≤ length text
@@ -79,28 +75,30 @@ one_more_padded places d x xs h =
     (set_at xs d (replicate (places - (length xs + 1)) d) x (length xs) refl
     ∙ rw (length_more xs x, append_snoc xs x (replicate (places - (length xs + 1)) d)))
 
--- one job more in a column
-pub one_more_column : (f : Job → ℕ) (js : List Job) (j : Job) (c : List ℕ) → length js < length c → Column f js c
-    → Column f (js ++ j ∷ []) (set c (length js) (f j))
-one_more_column f js j [] h column k = absurd (omega arith)
-one_more_column f [] j (x ∷ c) h column zero = refl
-one_more_column f [] j (x ∷ c) h column (suc k) = column (suc k)
-one_more_column f (i ∷ js) j (x ∷ c) h column zero = column 0
-one_more_column f (i ∷ js) j (x ∷ c) h column (suc k) = one_more_column f js j c (omega arith) (λ m. column (suc m)) k
+-- what is noted of the records: the jobs are those in the table's first places
+pub noted : (text : List ℕ) (table : Table) (before : Standing) (place : Cursor) (so_far : SoFar text table before place)
+    → Noted (stands_with before so_far.records) before (take before.jobs table.jobs)
+noted text table before place so_far = record {
+  state = so_far.state;
+  rising = (fits so_far.reached).rising;
+  same_jobs =
+      rw (ap (λ (s : Standing). s.jobs) so_far.state, so_far.in_places)
+      (take-append_seam so_far.records.jobs (replicate (most_jobs - length so_far.records.jobs) no_job));
+}
 
-module _ (text : List ℕ) (table : Table) (numbers requests : List ℕ) (before : Standing) (place : Cursor)
-    (so_far : SoFar text table numbers requests before place) (inside : place.at < length text) (l : Line)
-    (line : LineAccepted text place (stands_with before so_far.records) l) where
+module _ (text : List ℕ) (table : Table) (before : Standing) (place : Cursor)
+    (so_far : SoFar text table before place) (inside : place.at < length text) (l : Line)
+    (line : RecordAccepted text place (stands_with before so_far.records) l) where
   abbrev here : Before
   here = stands_with before so_far.records
 
   remains : 0 < length (drop place.at text)
   remains = rw (length-drop place.at text) (omega arith)
 
-  -- the reading place moves on with a line that is not refused
-  pub goes_on : is_refused l.parsed ≡ false → place.at < l.next.at
-  goes_on good =
-      omega (arith, rest_shorter (drop place.at text) remains, ap length (line.rest good), length-drop place.at text, length-drop l.next.at text)
+  -- the reading place moves on with a line that is accepted
+  pub goes_on : place.at < l.next.at
+  goes_on =
+      omega (arith, rest_shorter (drop place.at text) remains, ap length line.rest, length-drop place.at text, length-drop l.next.at text)
 
   -- the reading after the line, where it is accepted
   pub record LineMoved (next : Before) : Type 0 where
@@ -117,15 +115,15 @@ module _ (text : List ℕ) (table : Table) (numbers requests : List ℕ) (before
   two_bytes (one r) next e h = record_rest (drop place.at text) r e
   two_bytes (bad why) next e h = let z : ◌≡◌ {A = ℕ} 0 1 = cc in absurd (omega arith)
 
-  next_counted : is_refused l.parsed ≡ false → l.next.line ≡ place.line + 1
+  next_counted : l.next.line ≡ place.line + 1
   unfolding line_behind
-  next_counted good =
-      line.next_line good
+  next_counted =
+      line.next_line
       ∙ rw (lt-ltb place.line most_line (omega (arith, so_far.few_lines, so_far.within, so_far.counted)))
 
-  pub moved : (next : Before) → is_refused l.parsed ≡ false → judged_as here l.parsed ≡ accepted next → LineMoved next
+  pub moved : (next : Before) → judged_as here l.parsed ≡ accepted next → LineMoved next
   unfolding take_from_up_to and_then
-  moved next good e =
+  moved next e =
       let step : accept here (first_item (drop place.at text)) ≡ accepted next = sym line.judged ∙ e in
       let (rs, same, stands) = reached_standing so_far.reached (after step at_once) in
       let shorter = two_bytes (first_item (drop place.at text)) next refl step in
@@ -134,8 +132,8 @@ module _ (text : List ℕ) (table : Table) (numbers requests : List ℕ) (before
         reached = stands;
         to_read =
             so_far.to_read
-            ∙ rw (items (drop place.at text) remains) (rw step (rw (← line.rest good) (rw (next_counted good))));
+            ∙ rw (items (drop place.at text) remains) (rw step (rw (← line.rest) (rw next_counted)));
         few_lines =
-            omega (arith, next_counted good, so_far.few_lines, shorter, ap length (line.rest good), length-drop place.at text, length-drop l.next.at text, line.within good);
-        within = line.within good;
+            omega (arith, next_counted, so_far.few_lines, shorter, ap length line.rest, length-drop place.at text, length-drop l.next.at text, line.within);
+        within = line.within;
       }

@@ -7,12 +7,14 @@ use contract.Lifetimes.{Lfts}
 use denote.Ref.{Bor}
 use Rattle.laws.proofs.Unique.{reading_unique}
 use Rattle.reader.proofs.read.Reads.{Learnt}
-use Rattle.rules.specs.declared.Reading.{Reading}
+use Rattle.rules.specs.declared.Refused.{Refused}
+use Rattle.rules.specs.declared.Table.{Table}
+use Rattle.std.specs.Prelude.{Result}
 
 -- what the promise tells a caller of an answer r
-abbrev pub Promised : Lfts 1 → Bor (List ℕ) → Reading → Type 0
+abbrev pub Promised : Lfts 1 → Bor (List ℕ) → Result Table Refused → Type 0
 Promised lifetime text r = Learnt lifetime (text, tt) r (text, tt)
 
-pub unique : (lifetime : Lfts 1) (text : Bor (List ℕ)) (r s : Reading)
+pub unique : (lifetime : Lfts 1) (text : Bor (List ℕ)) (r s : Result Table Refused)
     → Promised lifetime text r → Promised lifetime text s → r ≡ s
 unique lifetime text r s p q = reading_unique r s (p ∙ sym q)

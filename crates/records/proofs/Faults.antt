@@ -16,7 +16,7 @@ use Rattle.rules.specs.declared.Refusal.{Refusal}
 use Rattle.rules.specs.declared.Speed.{Speed}
 use Rattle.records.specs.Faults.{clock_fault, speed_fault, job_fault, hold_fault, holder_fault}
 use Rattle.records.specs.Standing.{standing_of}
-use Rattle.records.specs.declared.Holder.{Holder}
+use Rattle.std.specs.Prelude.{Option as Answer}
 
 empty_count : {A : Type 0} (xs : List A) → empty xs ≡ eqb (length xs) 0
 empty_count [] = refl
@@ -62,7 +62,7 @@ unfoldable pub holder-fault : List Job → Hold → Option Refusal
 holder-fault js h =
     cond (not (any (is_holder h) js)) (some Refusal.UnknownJob) (cond (any (asks_own h) js) (some Refusal.OwnRequest) none)
 
-pub hold-fault : (b : Before) (h : Hold) (holder : Holder) → holder-fault b.records.jobs h ≡ holder_fault holder h
+pub hold-fault : (b : Before) (h : Hold) (holder : Answer ℕ) → holder-fault b.records.jobs h ≡ holder_fault holder h
     → fault_of b (Record.H h) ≡ hold_fault (standing_of b) h holder
 unfolding fault_of_up_to out_of_range out_of_order may_stand rises too_many_up_to critical_after unknown_job own_request hold_fault holder-fault
 hold-fault b h holder e =

@@ -1,21 +1,19 @@
 -- The lowest refusal of a record, by its letter, from the state of what stands before it.
-use Rattle.std.specs.Prelude.{Bool, cond, not, ◌||◌, List, ◌≡◌, ℕ, leb, ltb, eqb, length}
+use Rattle.std.specs.Prelude.{None, Some, Result, Ok, Err, Option as Answer}
+use Rattle.std.specs.Prelude.{Bool, cond, not, ◌||◌, List, ◌≡◌, ℕ, leb, ltb, eqb}
 use Rattle.std.proofs.Math.Option.{Option, none, some}
-use Rattle.columns.specs.Columns.{Column}
 use Rattle.rules.specs.Lists.{Rising, find}
 use Rattle.rules.specs.TableText.{Record, in_range, most_jobs, most_speeds}
 use Rattle.rules.specs.declared.Hold.{Hold}
 use Rattle.rules.specs.declared.Job.{Job}
 use Rattle.rules.specs.declared.Refusal.{Refusal}
 use Rattle.rules.specs.declared.Speed.{Speed}
-use Rattle.records.specs.declared.Holder.{Holder}
-use Rattle.records.specs.declared.Judgement.{Judgement}
 use Rattle.records.specs.declared.Standing.{Standing}
 
 -- a judgement as the refusal that it names
-abbrev pub fault_says : Judgement → Option Refusal
-fault_says Judgement.Good = none
-fault_says (Judgement.Bad r) = some r
+abbrev pub fault_says : Result (Unit {0}) Refusal → Option Refusal
+fault_says (Ok _) = none
+fault_says (Err r) = some r
 
 abbrev pub first_fault : Bool → Refusal → Option Refusal → Option Refusal
 first_fault t r others = cond t (some r) others
@@ -38,25 +36,23 @@ job_fault s j =
     (first_fault (ltb j.termination j.critical) Refusal.CriticalAfterTermination none)))
 
 -- what the holder's request says: unknown, its own resource, or nothing
-abbrev pub holder_fault : Holder → Hold → Option Refusal
-holder_fault Holder.Unknown h = some Refusal.UnknownJob
-holder_fault (Holder.Requests request) h = first_fault (eqb request h.resource) Refusal.OwnRequest none
+abbrev pub holder_fault : Answer ℕ → Hold → Option Refusal
+holder_fault None h = some Refusal.UnknownJob
+holder_fault (Some request) h = first_fault (eqb request h.resource) Refusal.OwnRequest none
 
--- the job of a number among those of the table
-abbrev pub as_holder : Option Job → Holder
-as_holder none = Holder.Unknown
-as_holder (some j) = Holder.Requests j.request
+-- what the job of a number requests, among those of the table
+abbrev pub requested : Option Job → Answer ℕ
+requested none = None
+requested (some j) = Some j.request
 
-unfoldable pub looked_up : List Job → ℕ → Holder
-looked_up js number = as_holder (find (λ j. eqb j.number number) js)
+unfoldable pub looked_up : List Job → ℕ → Answer ℕ
+looked_up js number = requested (find (λ j. eqb j.number number) js)
 
--- the job of a number among the first count, which rise, from the columns of numbers and requests
-abbrev pub HolderOf : List ℕ → List ℕ → ℕ → ℕ → Holder → Type 0
-HolderOf numbers requests count number holder =
-    (js : List Job) → length js ≡ count → Rising (λ j. j.number) js → Column (λ j. j.number) js numbers
-    → Column (λ j. j.request) js requests → holder ≡ looked_up js number
+-- what the job of a number requests, among jobs whose numbers rise
+abbrev pub RequestOf : List Job → ℕ → Answer ℕ → Type 0
+RequestOf js number request = Rising (λ j. j.number) js → request ≡ looked_up js number
 
-unfoldable pub hold_fault : Standing → Hold → Holder → Option Refusal
-hold_fault s h holder =
+unfoldable pub hold_fault : Standing → Hold → Answer ℕ → Option Refusal
+hold_fault s h request =
     first_fault (not (in_range (Record.H h))) Refusal.Range
-    (first_fault (eqb s.jobs 0 || not (ltb s.resource h.resource)) Refusal.Order (holder_fault holder h))
+    (first_fault (eqb s.jobs 0 || not (ltb s.resource h.resource)) Refusal.Order (holder_fault request h))

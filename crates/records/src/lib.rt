@@ -2,12 +2,11 @@
 #![tactic(auto)]
 
 ghost use Rattle.std.specs.Prelude.{◌≡◌, ◌≤◌};
+ghost use Rattle.records.specs.Faults.{RequestOf, clock_fault, fault_says, hold_fault, job_fault, speed_fault};
+ghost use Rattle.records.specs.Standing.{after_clock, after_hold, after_job, after_speed, none_standing};
 ghost use Rattle.rules.specs.TableText.{Record, in_range, is_budget, most_holds, most_jobs, most_speeds};
-ghost use Rattle.records.specs.Faults.{HolderOf, clock_fault, speed_fault, job_fault, hold_fault, fault_says};
-ghost use Rattle.records.specs.Standing.{none_standing, after_clock, after_speed, after_job, after_hold};
 
-use columns::Found;
-use rules::{Hold, Job, MOST_CYCLES, MOST_JOBS, Refusal, Speed};
+use rules::{Hold, Job, MOST_CYCLES, MOST_JOBS, MOST_SPEEDS, Refusal, Speed, within};
 
 const MOST_TIME: u64 = 1000000000;
 
@@ -36,248 +35,186 @@ pub struct Standing {
     pub resource: u64,
 }
 
-// The job that an H line names: what it requests, or that it is not in the table.
-#[derive(Clone, Copy)]
-pub enum Holder {
-    Requests(u64),
-    Unknown,
-}
-
-#[derive(Clone, Copy)]
-pub enum Judgement {
-    Good,
-    Bad(Refusal),
-}
-
 // The range of a budget, in a T line or beside a table.
+#[tactic(auto, unfolding(rules::specs::TableText::is_budget))]
 pub fn budget_in_range(budget: u64) -> bool
     ensures { result ≡ is_budget budget }
 {
-    rules::within(0, MOST_BUDGET, budget)
+    within(0, MOST_BUDGET, budget)
 }
 
+#[tactic(auto, unfolding(rules::specs::TableText::in_range, rules::specs::TableText::is_time))]
 fn clock_in_range(clock: u64, budget: u64) -> bool
     ensures { result ≡ in_range (Record.T clock budget) }
 {
-    if !rules::within(0, MOST_TIME, clock) {
-        return false;
-    }
-    budget_in_range(budget)
+    within(0, MOST_TIME, clock) && budget_in_range(budget)
 }
 
+#[tactic(auto, unfolding(rules::specs::TableText::in_range, rules::specs::TableText::is_mhz, rules::specs::TableText::is_cost))]
 fn speed_in_range(speed: Speed) -> bool
     ensures { result ≡ in_range (Record.F speed) }
 {
-    if !rules::within(1, MOST_MHZ, speed.mhz) {
-        return false;
-    }
-    rules::within(1, MOST_COST, speed.cost)
+    within(1, MOST_MHZ, speed.mhz) && within(1, MOST_COST, speed.cost)
 }
 
+#[tactic(auto, unfolding(rules::specs::TableText::in_range, rules::specs::TableText::is_job_number, rules::specs::TableText::is_cycles, rules::specs::TableText::is_worth, rules::specs::TableText::is_time, rules::specs::TableText::is_request))]
 fn job_in_range(job: Job) -> bool
     ensures { result ≡ in_range (Record.J job) }
 {
-    if !rules::within(1, MOST_JOB_NUMBER, job.number) {
-        return false;
-    }
-    if !rules::within(1, MOST_CYCLES, job.cycles) {
-        return false;
-    }
-    if !rules::within(0, MOST_WORTH, job.worth) {
-        return false;
-    }
-    if !rules::within(0, MOST_TIME, job.critical) {
-        return false;
-    }
-    if !rules::within(0, MOST_TIME, job.termination) {
-        return false;
-    }
-    rules::within(0, MOST_RESOURCE, job.request)
+    within(1, MOST_JOB_NUMBER, job.number)
+        && within(1, MOST_CYCLES, job.cycles)
+        && within(0, MOST_WORTH, job.worth)
+        && within(0, MOST_TIME, job.critical)
+        && within(0, MOST_TIME, job.termination)
+        && within(0, MOST_RESOURCE, job.request)
 }
 
+#[tactic(auto, unfolding(rules::specs::TableText::in_range, rules::specs::TableText::is_resource, rules::specs::TableText::is_job_number))]
 fn hold_in_range(hold: Hold) -> bool
     ensures { result ≡ in_range (Record.H hold) }
 {
-    if !rules::within(1, MOST_RESOURCE, hold.resource) {
-        return false;
-    }
-    rules::within(1, MOST_JOB_NUMBER, hold.holder)
+    within(1, MOST_RESOURCE, hold.resource) && within(1, MOST_JOB_NUMBER, hold.holder)
 }
 
-// Refusals 2 and 3 of a T line.
-pub fn judge_clock(before: Standing, clock: u64, budget: u64) -> Judgement
-    ensures { fault_says result ≡ clock_fault before clock budget }
-{
-    if !clock_in_range(clock, budget) {
-        return Judgement::Bad(Refusal::Range);
+impl Standing {
+    // Before line 1.
+    pub fn none() -> Standing
+        ensures { result ≡ none_standing }
+    {
+        Standing {
+            begun: false,
+            speeds: 0,
+            jobs: 0,
+            holds: 0,
+            mhz: 0,
+            number: 0,
+            resource: 0,
+        }
     }
-    if before.begun {
-        return Judgement::Bad(Refusal::Order);
-    }
-    Judgement::Good
-}
 
-// Refusals 2 to 4 of an F line.
-pub fn judge_speed(before: Standing, speed: Speed) -> Judgement
-    ensures { fault_says result ≡ speed_fault before speed }
-{
-    if !speed_in_range(speed) {
-        return Judgement::Bad(Refusal::Range);
+    // Refusals 2 and 3 of a T line.
+    #[tactic(auto, unfolding(crate::specs::Faults::clock_fault))]
+    pub fn judge_clock(self, clock: u64, budget: u64) -> Result<(), Refusal>
+        ensures { fault_says result ≡ clock_fault self clock budget }
+    {
+        if !clock_in_range(clock, budget) {
+            return Err(Refusal::Range);
+        }
+        if self.begun {
+            return Err(Refusal::Order);
+        }
+        Ok(())
     }
-    if !before.begun {
-        return Judgement::Bad(Refusal::Order);
-    }
-    if before.jobs != 0 {
-        return Judgement::Bad(Refusal::Order);
-    }
-    if speed.mhz <= before.mhz {
-        return Judgement::Bad(Refusal::Order);
-    }
-    if rules::MOST_SPEEDS <= before.speeds {
-        return Judgement::Bad(Refusal::TooMany);
-    }
-    Judgement::Good
-}
 
-// Refusals 2 to 5 of a J line.
-pub fn judge_job(before: Standing, job: Job) -> Judgement
-    ensures { fault_says result ≡ job_fault before job }
-{
-    if !job_in_range(job) {
-        return Judgement::Bad(Refusal::Range);
+    // Refusals 2 to 4 of an F line.
+    #[tactic(auto, unfolding(crate::specs::Faults::speed_fault))]
+    pub fn judge_speed(self, speed: Speed) -> Result<(), Refusal>
+        ensures { fault_says result ≡ speed_fault self speed }
+    {
+        if !speed_in_range(speed) {
+            return Err(Refusal::Range);
+        }
+        if !self.begun || self.jobs != 0 || speed.mhz <= self.mhz {
+            return Err(Refusal::Order);
+        }
+        if MOST_SPEEDS <= self.speeds {
+            return Err(Refusal::TooMany);
+        }
+        Ok(())
     }
-    if before.speeds == 0 {
-        return Judgement::Bad(Refusal::Order);
-    }
-    if before.holds != 0 {
-        return Judgement::Bad(Refusal::Order);
-    }
-    if job.number <= before.number {
-        return Judgement::Bad(Refusal::Order);
-    }
-    if MOST_JOBS <= before.jobs {
-        return Judgement::Bad(Refusal::TooMany);
-    }
-    if job.termination < job.critical {
-        return Judgement::Bad(Refusal::CriticalAfterTermination);
-    }
-    Judgement::Good
-}
 
-// Refusals 2, 3, 6 and 7 of an H line, whose job has been looked up.
-pub fn judge_hold(before: Standing, hold: Hold, holder: Holder) -> Judgement
-    ensures { fault_says result ≡ hold_fault before hold holder }
-{
-    if !hold_in_range(hold) {
-        return Judgement::Bad(Refusal::Range);
+    // Refusals 2 to 5 of a J line.
+    #[tactic(auto, unfolding(crate::specs::Faults::job_fault))]
+    pub fn judge_job(self, job: Job) -> Result<(), Refusal>
+        ensures { fault_says result ≡ job_fault self job }
+    {
+        if !job_in_range(job) {
+            return Err(Refusal::Range);
+        }
+        if self.speeds == 0 || self.holds != 0 || job.number <= self.number {
+            return Err(Refusal::Order);
+        }
+        if MOST_JOBS <= self.jobs {
+            return Err(Refusal::TooMany);
+        }
+        if job.termination < job.critical {
+            return Err(Refusal::CriticalAfterTermination);
+        }
+        Ok(())
     }
-    if before.jobs == 0 {
-        return Judgement::Bad(Refusal::Order);
-    }
-    if hold.resource <= before.resource {
-        return Judgement::Bad(Refusal::Order);
-    }
-    let Holder::Requests(request) = holder else {
-        return Judgement::Bad(Refusal::UnknownJob);
-    };
-    if request == hold.resource {
-        return Judgement::Bad(Refusal::OwnRequest);
-    }
-    Judgement::Good
-}
 
-// Before line 1.
-pub fn none_standing() -> Standing
-    ensures { result ≡ none_standing }
-{
-    Standing {
-        begun: false,
-        speeds: 0,
-        jobs: 0,
-        holds: 0,
-        mhz: 0,
-        number: 0,
-        resource: 0,
+    // Refusals 2, 3, 6 and 7 of an H line, of whose job it is known what it requests, if the table has it.
+    #[tactic(auto, unfolding(crate::specs::Faults::hold_fault))]
+    pub fn judge_hold(self, hold: Hold, request: Option<u64>) -> Result<(), Refusal>
+        ensures { fault_says result ≡ hold_fault self hold request }
+    {
+        if !hold_in_range(hold) {
+            return Err(Refusal::Range);
+        }
+        if self.jobs == 0 || hold.resource <= self.resource {
+            return Err(Refusal::Order);
+        }
+        let request = request.ok_or(Refusal::UnknownJob)?;
+        if request == hold.resource {
+            return Err(Refusal::OwnRequest);
+        }
+        Ok(())
     }
-}
 
-// The state after a T line. It is made anew, and not a copy that is changed: a copy takes the unused bytes beside `begun` along,
-// and in a loop waits for the one before it.
-pub fn after_clock(before: Standing) -> Standing
-    ensures { result ≡ after_clock before }
-{
-    Standing {
-        begun: true,
-        speeds: before.speeds,
-        jobs: before.jobs,
-        holds: before.holds,
-        mhz: before.mhz,
-        number: before.number,
-        resource: before.resource,
+    // The state after a T line.
+    pub fn after_clock(self) -> Standing
+        ensures { result ≡ after_clock self }
+    {
+        Standing {
+            begun: true,
+            ..self
+        }
     }
-}
 
-// The state after an F line.
-pub fn after_speed(before: Standing, speed: Speed) -> Standing
-    requires { before.speeds ≤ most_speeds }
-    ensures { result ≡ after_speed before speed }
-{
-    Standing {
-        begun: true,
-        speeds: before.speeds + 1,
-        jobs: before.jobs,
-        holds: before.holds,
-        mhz: speed.mhz,
-        number: before.number,
-        resource: before.resource,
+    // The state after an F line.
+    pub fn after_speed(self, speed: Speed) -> Standing
+        requires { self.speeds ≤ most_speeds }
+        ensures { result ≡ after_speed self speed }
+    {
+        Standing {
+            begun: true,
+            speeds: self.speeds + 1,
+            mhz: speed.mhz,
+            ..self
+        }
     }
-}
 
-// The state after a J line.
-pub fn after_job(before: Standing, job: Job) -> Standing
-    requires { before.jobs ≤ most_jobs }
-    ensures { result ≡ after_job before job }
-{
-    Standing {
-        begun: true,
-        speeds: before.speeds,
-        jobs: before.jobs + 1,
-        holds: before.holds,
-        mhz: before.mhz,
-        number: job.number,
-        resource: before.resource,
+    // The state after a J line.
+    pub fn after_job(self, job: Job) -> Standing
+        requires { self.jobs ≤ most_jobs }
+        ensures { result ≡ after_job self job }
+    {
+        Standing {
+            begun: true,
+            jobs: self.jobs + 1,
+            number: job.number,
+            ..self
+        }
+    }
+
+    // The state after an H line.
+    pub fn after_hold(self, hold: Hold) -> Standing
+        requires { self.holds ≤ most_holds }
+        ensures { result ≡ after_hold self hold }
+    {
+        Standing {
+            begun: true,
+            holds: self.holds + 1,
+            resource: hold.resource,
+            ..self
+        }
     }
 }
 
-// The state after an H line.
-pub fn after_hold(before: Standing, hold: Hold) -> Standing
-    requires { before.holds ≤ most_holds }
-    ensures { result ≡ after_hold before hold }
+// What the job that an H line names requests, if it is among these jobs. Their numbers rise.
+pub fn request_of(jobs: &[Job], number: u64) -> Option<u64>
+    ensures { RequestOf jobs.now number result }
 {
-    Standing {
-        begun: true,
-        speeds: before.speeds,
-        jobs: before.jobs,
-        holds: before.holds + 1,
-        mhz: before.mhz,
-        number: before.number,
-        resource: hold.resource,
-    }
-}
-
-// The job that an H line names, among the first count of the columns of numbers and requests.
-pub fn holder_of<'a>(
-    numbers: &'a [u64; MOST_JOBS],
-    requests: &'a [u64; MOST_JOBS],
-    count: usize,
-    number: u64,
-) -> Holder
-    requires { count ≤ most_jobs }
-    ensures { HolderOf numbers.now requests.now count number result }
-{
-    let found = columns::look_up(numbers, count, number);
-    let Found::At(place) = found else {
-        return Holder::Unknown;
-    };
-    Holder::Requests(requests[place])
+    let place = jobs.binary_search_by_key(&number, |job| job.number).ok()?;
+    Some(jobs[place].request)
 }

@@ -5,7 +5,7 @@ use mathlib.Core.List.{List}
 use mathlib.Core.Logic.{inl, inr}
 use mathlib.Core.Option.{Option}
 use mathlib.Core.Path.{◌≡◌, refl, sym, ap, ◌∙◌}
-use Prim.Native.Nat.{ℕ, zero, suc, ◌≤◌, ◌<◌}
+use Prim.Native.Nat.{ℕ, zero, suc, ◌<◌}
 use native.Mathlib.Omega.{arith}
 use borrow.Author.Tests.{ne_eqb}
 use lib.ListN.{get_or, length}
@@ -19,9 +19,6 @@ use Rattle.rules.specs.TableText.{Records, most_holds, most_jobs, no_job}
 use Rattle.rules.specs.declared.Job.{Job}
 
 module _ (waits : List ℕ) where
-  pub ended : (p : ℕ) → most_jobs ≤ p → Ends waits p
-  ended p h = record { steps = 0; after = h }
-
   -- the walk from a job ends where that from the one it waits for does
   pub ends_before : (p : ℕ) → p < most_jobs → Ends waits (get_or waits p 0) → Ends waits p
   ends_before p h e = record { steps = suc e.steps; after = (h, e.after) }

@@ -22,9 +22,6 @@ pub record FilledTo (Right : ℕ → ℕ → Type 0) (i : ℕ) (xs : List ℕ) :
   pub right : RightBelow Right i xs
 
 module _ (Right : ℕ → ℕ → Type 0) where
-  pub nothing_filled : (xs : List ℕ) → length xs ≡ most_jobs → FilledTo Right 0 xs
-  nothing_filled xs whole = record { whole = whole; right = λ k l. absurd (omega arith) }
-
   stored_right : (xs : List ℕ) (i v : ℕ) → i < length xs → RightBelow Right i xs → Right i v
       → RightBelow Right (i + 1) (set xs i v)
   stored_right xs i v l right here k m =

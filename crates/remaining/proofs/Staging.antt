@@ -10,6 +10,7 @@ use lib.ListN.{get_or, length}
 use Rattle.chains.proofs.Stage.{left_are, stays_left, stays_timely, timely_are}
 use Rattle.chains.specs.Stage.{FatesSoFar, fate_if_late, fate_so_far}
 use Rattle.chains.specs.Waits.{Remaining, Waits}
+use Rattle.columns.specs.declared.Columns.{Columns}
 use Rattle.columns.specs.declared.Terms.{Terms}
 use Rattle.remaining.specs.Promises.{LateFates, RingFates, Staged, WaitsColumn}
 use Rattle.rules.specs.Lists.{keep}
@@ -51,12 +52,12 @@ module _ (t : Records) where
   left_remain : (fates : List ℕ) → FatesSoFar t fates → Remaining t.jobs (stays_left t) fates
   left_remain fates e i l = rw (e i l)
 
-module _ {number cycles worth termination request : List ℕ} {terms : Terms}
-    {late holder-at timely_waits fates waits : List ℕ} (late-fates : LateFates cycles termination terms late)
-    (among_timely : WaitsColumn request holder-at late terms.job_count timely_waits)
-    (ring-fates : RingFates late timely_waits number worth cycles terms.job_count fates)
-    (among_left : WaitsColumn request holder-at fates terms.job_count waits) where
-  pub steps_1_and_2 : Staged holder-at number cycles worth termination request terms fates waits
+module _ {jobs : Columns} {terms : Terms} {late holder-at timely_waits fates waits : List ℕ}
+    (late-fates : LateFates jobs terms late)
+    (among_timely : WaitsColumn jobs.request holder-at late terms.job_count timely_waits)
+    (ring-fates : RingFates late timely_waits jobs terms.job_count fates)
+    (among_left : WaitsColumn jobs.request holder-at fates terms.job_count waits) where
+  pub steps_1_and_2 : Staged holder-at jobs terms fates waits
   steps_1_and_2 = record {
     fates_whole = ring-fates.whole;
     waits_whole = among_left.whole;

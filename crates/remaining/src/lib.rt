@@ -2,220 +2,192 @@
 // of the others waits for. What they find is put into lent columns, at the jobs' places: a column handed back would be copied.
 #![tactic(auto)]
 
-ghost use Rattle.std.specs.Prelude.{cond, not, ◌≡◌, ◌≤◌, ◌<◌, length, replicate};
+ghost use Rattle.std.specs.Prelude.{cond, not, ◌≡◌, ◌≤◌, ◌<◌, replicate};
 ghost use Rattle.chains.specs.Promises.{Comparable};
 ghost use Rattle.columns.specs.Columns.{AtMost};
 ghost use Rattle.columns.specs.Ranges.{RunsInRange, TermsInRange};
-ghost use Rattle.remaining.specs.Ends.{EndMarks};
+ghost use Rattle.remaining.specs.Ends.{EndMarks, is_walked};
 ghost use Rattle.remaining.specs.Promises.{Awaited, LateFates, RingFate, RingFates, Settled};
 ghost use Rattle.remaining.specs.Promises.{Stageable, Staged, WaitsColumn, WalkEnd};
+ghost use Rattle.rules.specs.Answers.{fate_as_number, fates_as_numbers};
 ghost use Rattle.rules.specs.Plan.{ends_by, fate_late};
 ghost use Rattle.rules.specs.TableText.{most_cycles, most_holds, most_jobs, most_worth};
 
 use chains::{RESOURCES, late, leaves_ring, waits_for};
-use columns::Terms;
-use rules::{FATE_DEADLOCK, FATE_LATE, MOST_HOLDS, MOST_JOBS, NO_FATE};
+use columns::{Columns, Terms};
+use rules::{Fate, MOST_HOLDS, MOST_JOBS};
 
-// Step 2, "On each ring of waiting jobs": the mark of a job from which the walk along whom each waits for ends, at one who waits
-// for nobody, so that the job is on no ring.
-const WALK_ENDS: u64 = 2;
+// Step 2, "On each ring of waiting jobs": what is known of the job at a place.
+#[derive(Clone, Copy, PartialEq, Eq)]
+enum Mark {
+    // No job waits for it, so that it is on no ring.
+    Unawaited,
+    // Some job waits for it, and nothing more is known.
+    Awaited,
+    // The walk along whom each waits for ends, at one who waits for nobody, so that the job is on no ring.
+    Ends,
+    // That walk did not end in 33 steps.
+    GoesOn,
+}
 
-// The mark of a job from which the walk did not end in 33 steps.
-const WALK_GOES_ON: u64 = 3;
-
-// Step 1, "A job with now + its run time at top speed > termination is taken out (fate 2)": 0 for one that remains.
-fn fate_if_late(clock: u64, mhz: u64, cycles: u64, termination: u64) -> u64
-    requires { Comparable clock mhz cycles termination }
-    ensures { result ≡ cond (not (ends_by clock mhz cycles termination)) fate_late 0 }
-{
-    if late(clock, mhz, cycles, termination) {
-        return FATE_LATE;
+impl Mark {
+    // Whether the walk from there has been walked.
+    fn is_walked(self) -> bool
+        ensures { result ≡ is_walked self }
+    {
+        matches!(self, Mark::Ends | Mark::GoesOn)
     }
-    NO_FATE
+}
+
+// Step 1, "A job with now + its run time at top speed > termination is taken out (fate 2)": none for one that remains.
+fn fate_if_late(clock: u64, mhz: u64, cycles: u64, termination: u64) -> Option<Fate>
+    requires { Comparable clock mhz cycles termination }
+    ensures { fate_as_number result ≡ cond (not (ends_by clock mhz cycles termination)) fate_late 0 }
+{
+    late(clock, mhz, cycles, termination).then_some(Fate::Late)
 }
 
 // Step 1, "Late alone": fate 2 at the place of each job that is late.
-fn late_fates<'a>(
-    fates: &mut [u64; MOST_JOBS],
-    cycles: &'a [u64; MOST_JOBS],
-    termination: &'a [u64; MOST_JOBS],
-    terms: Terms,
-)
-    requires { (length fates.old ≡ most_jobs) × RunsInRange cycles.now termination.now × TermsInRange terms }
-    ensures { LateFates cycles.now termination.now terms fates.new }
+fn late_fates(fates: &mut [Option<Fate>; MOST_JOBS], jobs: &Columns, terms: Terms)
+    requires { RunsInRange jobs.now.cycles jobs.now.termination × TermsInRange terms }
+    ensures { LateFates jobs.now terms (fates_as_numbers fates.new) }
 {
-    let count = terms.job_count;
-    let mut i = 0;
-    while i < count {
-        let fate = fate_if_late(terms.clock, terms.mhz, cycles[i], termination[i]);
-        fates[i] = fate;
-        i += 1;
+    for i in 0..terms.job_count {
+        fates[i] = fate_if_late(terms.clock, terms.mhz, jobs.cycles[i], jobs.termination[i]);
     }
 }
 
-// Step 2, "A job waits for the remaining job that holds the resource it requests": for each job, those of fate 0
+// Step 2, "A job waits for the remaining job that holds the resource it requests": for each job, those without a fate
 // remaining.
-fn waits_column<'a>(
+fn waits_column(
     waits: &mut [u64; MOST_JOBS],
-    request: &'a [u64; MOST_JOBS],
-    holder_at: &'a [u64; RESOURCES],
-    fates: &[u64; MOST_JOBS],
+    request: &[u64; MOST_JOBS],
+    holder_at: &[u64; RESOURCES],
+    fates: &[Option<Fate>; MOST_JOBS],
     job_count: usize,
 )
-    requires { (length waits.old ≡ most_jobs) × (job_count ≤ most_jobs) × AtMost most_holds request.now }
-    ensures { WaitsColumn request.now holder_at.now fates.now job_count waits.new }
+    requires { (job_count ≤ most_jobs) × AtMost most_holds request.now }
+    ensures { WaitsColumn request.now holder_at.now (fates_as_numbers fates.now) job_count waits.new }
 {
-    let mut i = 0;
-    while i < job_count {
-        let holder = waits_for(request, holder_at, fates, i);
-        waits[i] = holder;
-        i += 1;
+    for i in 0..job_count {
+        waits[i] = waits_for(request, holder_at, fates, i);
     }
 }
 
-// Step 2, "A job waits for the remaining job": a mark, 1, at the place of each job that some job waits for, and 0 at the others.
-fn mark_awaited(marks: &mut [u64; MOST_JOBS], waits: &[u64; MOST_JOBS], job_count: usize)
-    requires { (job_count ≤ most_jobs) × (marks.old ≡ replicate most_jobs 0) }
+// Step 2, "A job waits for the remaining job": a mark at the place of each job that some job waits for.
+fn mark_awaited(marks: &mut [Mark; MOST_JOBS], waits: &[u64; MOST_JOBS], job_count: usize)
+    requires { (job_count ≤ most_jobs) × (marks.old ≡ replicate most_jobs Mark.Unawaited) }
     ensures { Awaited waits.now job_count marks.new }
 {
-    let mut i = 0;
-    while i < job_count {
-        let holder = waits[i] as usize;
-        i += 1;
-        if MOST_JOBS <= holder {
-            continue;
+    for awaited in waits[..job_count].iter() {
+        let holder = *awaited as usize;
+        if holder < MOST_JOBS {
+            marks[holder] = Mark::Awaited;
         }
-        marks[holder] = 1;
     }
 }
 
 // Step 2, "On each ring of waiting jobs": how the walk from this place comes out, as a mark. It stops at the mark of an earlier
 // walk.
-fn walk_end(place: usize, marks: &[u64; MOST_JOBS], waits: &[u64; MOST_JOBS]) -> u64
+fn walk_end(place: usize, marks: &[Mark; MOST_JOBS], waits: &[u64; MOST_JOBS]) -> Mark
     requires { EndMarks waits.now marks.now }
     ensures { WalkEnd place waits.now result }
 {
     let mut at = place;
-    let mut i = 0;
-    while i <= MOST_HOLDS {
+    for _ in 0..=MOST_HOLDS {
         if MOST_JOBS <= at {
-            return WALK_ENDS;
+            return Mark::Ends;
         }
-        let mark = marks[at];
-        if WALK_ENDS <= mark {
-            return mark;
+        if marks[at].is_walked() {
+            return marks[at];
         }
         at = waits[at] as usize;
-        i += 1;
     }
-    WALK_GOES_ON
+    Mark::GoesOn
 }
 
 // Step 2, "On each ring of waiting jobs": how the walk from this place comes out, as a mark at each place of it, up to the
 // first that has such a mark already.
-fn mark_walk(place: usize, end: u64, marks: &mut [u64; MOST_JOBS], waits: &[u64; MOST_JOBS])
-    requires { (length marks.old ≡ most_jobs) × EndMarks waits.now marks.old × WalkEnd place waits.now end }
+fn mark_walk(place: usize, end: Mark, marks: &mut [Mark; MOST_JOBS], waits: &[u64; MOST_JOBS])
+    requires { EndMarks waits.now marks.old × WalkEnd place waits.now end }
     ensures { Settled waits.now marks.old marks.new }
 {
     let mut at = place;
-    let mut i = 0;
-    while i <= MOST_HOLDS {
-        if MOST_JOBS <= at {
-            return;
-        }
-        if WALK_ENDS <= marks[at] {
+    for _ in 0..=MOST_HOLDS {
+        if MOST_JOBS <= at || marks[at].is_walked() {
             return;
         }
         marks[at] = end;
         at = waits[at] as usize;
-        i += 1;
     }
 }
 
-// Step 2, "On each ring of waiting jobs": the walk from an awaited job of which nothing more is known, a mark of 1, is
-// walked and marked.
-fn settle(place: usize, marks: &mut [u64; MOST_JOBS], waits: &[u64; MOST_JOBS])
-    requires { (place < most_jobs) × (length marks.old ≡ most_jobs) × EndMarks waits.now marks.old }
+// Step 2, "On each ring of waiting jobs": the walk from an awaited job of which nothing more is known is walked and marked.
+fn settle(place: usize, marks: &mut [Mark; MOST_JOBS], waits: &[u64; MOST_JOBS])
+    requires { (place < most_jobs) × EndMarks waits.now marks.old }
     ensures { Settled waits.now marks.old marks.new }
 {
-    if marks[place] != 1 {
-        return;
+    if marks[place] == Mark::Awaited {
+        let end = walk_end(place, marks, waits);
+        mark_walk(place, end, marks, waits);
     }
-    let end = walk_end(place, marks, waits);
-    mark_walk(place, end, marks, waits);
 }
 
 // Step 2, "On each ring of waiting jobs, the one .. is taken out (fate 3)": the fate of the job at this place, from the
-// one that step 1 gave it. A job for which nobody waits, mark 0, is on no ring, nor is one whose walk ends, mark 2.
-fn ring_fate<'a>(
-    late: u64,
-    mark: u64,
+// one that step 1 gave it. A job for which nobody waits is on no ring, nor is one whose walk ends.
+fn ring_fate(
+    late: Option<Fate>,
+    mark: Mark,
     place: usize,
-    waits: &'a [u64; MOST_JOBS],
-    number: &'a [u64; MOST_JOBS],
-    worth: &'a [u64; MOST_JOBS],
-    cycles: &'a [u64; MOST_JOBS],
-) -> u64
-    requires { (place < most_jobs) × AtMost most_worth worth.now × AtMost most_cycles cycles.now }
-    ensures { RingFate late mark place waits.now number.now worth.now cycles.now result }
+    waits: &[u64; MOST_JOBS],
+    jobs: &Columns,
+) -> Option<Fate>
+    requires { (place < most_jobs) × AtMost most_worth jobs.now.worth × AtMost most_cycles jobs.now.cycles }
+    ensures { RingFate (fate_as_number late) mark place waits.now jobs.now (fate_as_number result) }
 {
-    if late != NO_FATE {
+    if late.is_some() {
         return late;
     }
-    if mark == 0 {
-        return NO_FATE;
+    match mark {
+        Mark::Unawaited | Mark::Ends => None,
+        Mark::Awaited | Mark::GoesOn => {
+            leaves_ring(place, waits, jobs).then_some(Fate::Deadlock)
+        }
     }
-    if mark == WALK_ENDS {
-        return NO_FATE;
-    }
-    if leaves_ring(place, waits, number, worth, cycles) {
-        return FATE_DEADLOCK;
-    }
-    NO_FATE
 }
 
-// Step 2, "On each ring": to the fates of step 1, 3 at the place of each job that leaves its ring. The marks are lent as zeros.
-fn ring_fates<'a>(
-    fates: &mut [u64; MOST_JOBS],
-    marks: &mut [u64; MOST_JOBS],
-    waits: &'a [u64; MOST_JOBS],
-    number: &'a [u64; MOST_JOBS],
-    worth: &'a [u64; MOST_JOBS],
-    cycles: &'a [u64; MOST_JOBS],
+// Step 2, "On each ring": to the fates of step 1, 3 at the place of each job that leaves its ring.
+fn ring_fates(
+    fates: &mut [Option<Fate>; MOST_JOBS],
+    waits: &[u64; MOST_JOBS],
+    jobs: &Columns,
     job_count: usize,
 )
-    requires { (length fates.old ≡ most_jobs) × (marks.old ≡ replicate most_jobs 0) × (job_count ≤ most_jobs) × AtMost most_worth worth.now × AtMost most_cycles cycles.now }
-    ensures { (length marks.new ≡ most_jobs) × RingFates fates.old waits.now number.now worth.now cycles.now job_count fates.new }
+    requires { (job_count ≤ most_jobs) × AtMost most_worth jobs.now.worth × AtMost most_cycles jobs.now.cycles }
+    ensures { RingFates (fates_as_numbers fates.old) waits.now jobs.now job_count (fates_as_numbers fates.new) }
 {
-    mark_awaited(marks, waits, job_count);
-    let mut i = 0;
-    while i < job_count {
-        settle(i, marks, waits);
-        let fate = ring_fate(fates[i], marks[i], i, waits, number, worth, cycles);
-        fates[i] = fate;
-        i += 1;
+    let mut marks = [Mark::Unawaited; MOST_JOBS];
+    mark_awaited(&mut marks, waits, job_count);
+    for i in 0..job_count {
+        settle(i, &mut marks, waits);
+        fates[i] = ring_fate(fates[i], marks[i], i, waits, jobs);
     }
 }
 
-// Steps 1 and 2: a fate for each job taken out, 0 for the others, and whom each job waits for among the others. It is looked up
-// twice: among the timely, to find the rings, and among those that step 2 leaves. The marks are lent as zeros, to be written over.
-pub fn take_out<'a>(
-    fates: &mut [u64; MOST_JOBS],
+// Steps 1 and 2: a fate for each job taken out, none for the others, and whom each job waits for among the others. It is looked
+// up twice: among the timely, to find the rings, and among those that step 2 leaves.
+pub fn take_out(
+    fates: &mut [Option<Fate>; MOST_JOBS],
     waits: &mut [u64; MOST_JOBS],
-    marks: &mut [u64; MOST_JOBS],
-    holder_at: &'a [u64; RESOURCES],
-    number: &'a [u64; MOST_JOBS],
-    cycles: &'a [u64; MOST_JOBS],
-    worth: &'a [u64; MOST_JOBS],
-    termination: &'a [u64; MOST_JOBS],
-    request: &'a [u64; MOST_JOBS],
+    holder_at: &[u64; RESOURCES],
+    jobs: &Columns,
     terms: Terms,
 )
-    requires { (marks.old ≡ replicate most_jobs 0) × Stageable fates.old waits.old cycles.now worth.now termination.now request.now terms }
-    ensures { (length marks.new ≡ most_jobs) × Staged holder_at.now number.now cycles.now worth.now termination.now request.now terms fates.new waits.new }
+    requires { Stageable jobs.now terms }
+    ensures { Staged holder_at.now jobs.now terms (fates_as_numbers fates.new) waits.new }
 {
-    late_fates(fates, cycles, termination, terms);
-    waits_column(waits, request, holder_at, fates, terms.job_count);
-    ring_fates(fates, marks, waits, number, worth, cycles, terms.job_count);
-    waits_column(waits, request, holder_at, fates, terms.job_count);
+    late_fates(fates, jobs, terms);
+    waits_column(waits, &jobs.request, holder_at, fates, terms.job_count);
+    ring_fates(fates, waits, jobs, terms.job_count);
+    waits_column(waits, &jobs.request, holder_at, fates, terms.job_count);
 }

@@ -3,9 +3,9 @@
 use mathlib.Core.List.{List}
 use mathlib.Core.Path.{◌≡◌, refl, ◌∙◌}
 use Prim.Native.Nat.{ℕ}
-use Rattle.rules.specs.Listing.{lines_for, listed_with, listing, listing_of, listing_with}
+use Rattle.rules.specs.Listing.{lines_for, listed_with, listing_of}
 use Rattle.rules.specs.Plan.{at_budget}
-use Rattle.rules.specs.Refusals.{Taken, read, refused_at, taken, written}
+use Rattle.rules.specs.Refusals.{Taken, read, refused_at, taken}
 use Rattle.rules.specs.Rooms.{room_lines_for, room_lines_from, room_listing, room_listing_with, rooms_of}
 use Rattle.rules.specs.TableText.{Records}
 use Rattle.rules.specs.declared.Refusal.{Refusal}
@@ -14,7 +14,7 @@ pub lines-of-rows : (t : Records) → room_lines_from 1 (rooms_of t) ≡ room_li
 unfolding room_lines_for
 lines-of-rows t = refl
 
-refusal_lines : (why : Refusal) (line : ℕ) → room_lines_for (refused_at why line) ≡ lines_for (refused_at why line)
+pub refusal_lines : (why : Refusal) (line : ℕ) → room_lines_for (refused_at why line) ≡ lines_for (refused_at why line)
 unfolding room_lines_for
 refusal_lines why line = refl
 
@@ -36,13 +36,3 @@ module _ (text : List ℕ) where
         → room_listing_with text budget ≡ listed_with text budget
     unfolding listed_with
     as_listed_with why line e = rooms_with (refused_at why line) e ∙ rw (e, refusal_lines why line)
-
--- What the listing leaves in a buffer is its lines, written.
-pub listing_written : (text out : List ℕ) → listing text out ≡ written (listing_of text) out
-unfolding listing
-listing_written text out = refl
-
-pub listing_with_written : (text : List ℕ) (budget : ℕ) (out : List ℕ)
-    → listing_with text budget out ≡ written (listed_with text budget) out
-unfolding listing_with
-listing_with_written text budget out = refl

@@ -46,42 +46,43 @@ module _ (t : Records) (v : Valid t) where
   module _ (count : ℕ) (order rooms number fates : List ℕ) (noted : RoomsNoted t count order rooms)
       (of : Column (λ j. j.number) t.jobs number) (by_turn : FatesByTurn t (course_of t) fates)
       (places : count ≤ length order) where
-    pub rows_counted : length (rooms_of t) ≡ count
+    -- the places of the jobs of these turns
+    abbrev turned : List ℕ
+    turned = take count order
+
+    pub all-turned : length turned ≡ count
+    all-turned = length-take-le count order places
+
+    pub rows_counted : length (rooms_of t) ≡ length turned
     rows_counted =
         sym (length-map (rooms_of t) (λ (r : TurnRoom). r.job))
         ∙ ap length (sym noted.row_jobs)
-        ∙ length-map (take count order) (λ p. get_or t.jobs p no_job)
-        ∙ length-take-le count order places
+        ∙ length-map turned (λ p. get_or t.jobs p no_job)
 
-    place_below : (k : ℕ) → k < count → get_or order k 0 < length t.jobs
-    place_below k h =
-        rw (get_or-take count order k 0 h) at (noted.below k (omega (arith, length-take-le count order places)))
-
-    pub turn_places : count ≤ most_jobs → TurnPlaces count order
-    turn_places few = record { few = few; below = λ k h. omega (arith, place_below k h, v.few_jobs) }
+    pub turn_places : count ≤ most_jobs → TurnPlaces turned
+    turn_places few = record { few = omega (arith, all-turned); below = λ k h. omega (arith, noted.below k h, v.few_jobs) }
 
     module _ (k : ℕ) (h : k < length (rooms_of t)) where
-      within : k < count
+      within : k < length turned
       within = omega (arith, rows_counted)
 
-      job_noted : job_at t (get_or order k 0) ≡ (get_or (rooms_of t) k no_turn).job
+      job_noted : job_at t (get_or turned k 0) ≡ (get_or (rooms_of t) k no_turn).job
       job_noted =
-          ap (job_at t) (sym (get_or-take count order k 0 within))
-          ∙ sym (get_or-map (job_at t) (take count order) k 0)
+          sym (get_or-map (job_at t) turned k 0)
           ∙ ap (λ js. get_or js k (job_at t 0)) noted.row_jobs
           ∙ whatever_beyond (map (λ (r : TurnRoom). r.job) (rooms_of t)) k (job_at t 0) no_job
           (omega (arith, length-map (rooms_of t) (λ (r : TurnRoom). r.job)))
           ∙ get_or-map (λ (r : TurnRoom). r.job) (rooms_of t) k no_turn
 
-    pub rows_by : RowsBy (rooms_of t) order rooms number fates
+    pub rows_by : RowsBy (rooms_of t) turned rooms number fates
     rows_by = record {
-      job_numbers = λ k h. of (get_or order k 0) ∙ ap (λ (j : Job). j.number) (job_noted k h);
+      job_numbers = λ k h. of (get_or turned k 0) ∙ ap (λ (j : Job). j.number) (job_noted k h);
       rooms_left = λ k h.
-          sym (get_or-take count rooms k 0 (within k h))
+          sym (get_or-take count rooms k 0 (omega (arith, within k h, all-turned)))
           ∙ ap (λ ns. get_or ns k 0) noted.row_rooms
           ∙ get_or-map (λ (r : TurnRoom). r.room) (rooms_of t) k no_turn;
       own-fates = λ k h.
-          by_turn (get_or order k 0) (place_below k (within k h))
+          by_turn (get_or turned k 0) (noted.below k (within k h))
           ∙ ap (fate_by_turn t (course_of t)) (job_noted k h)
           ∙ each_at_place {P = λ (r : TurnRoom). fate_by_turn t (course_of t) r.job ≡ r.fate} no_turn fates_of_rows k h;
     }

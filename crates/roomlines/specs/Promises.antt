@@ -17,9 +17,9 @@ abbrev pub no_turn : TurnRoom
 no_turn = record { job = no_job; room = 0; fate = 0 }
 
 -- Places of jobs, no more than there are places.
-pub record TurnPlaces (count : ℕ) (order : List ℕ) : Type 0 where
-  pub few : count ≤ most_jobs
-  pub below : (k : ℕ) → k < count → get_or order k 0 < most_jobs
+pub record TurnPlaces (order : List ℕ) : Type 0 where
+  pub few : length order ≤ most_jobs
+  pub below : (k : ℕ) → k < length order → get_or order k 0 < most_jobs
 
 -- The turns' rows, by the places of their jobs in the order of turns: the number of its job and the fate of its own turn stand in
 -- the columns, and the room after it in the order of turns.
@@ -28,14 +28,8 @@ pub record RowsBy (rows : List TurnRoom) (order rooms number fates : List ℕ) :
   pub rooms_left : (k : ℕ) → k < length rows → get_or rooms k 0 ≡ (get_or rows k no_turn).room
   pub own-fates : (k : ℕ) → k < length rows → get_or fates (get_or order k 0) 0 ≡ (get_or rows k no_turn).fate
 
--- The first so many numbers are those of these lines.
-pub record NumbersOf (lines numbers : List ℕ) (filled : ℕ) : Type 0 where
+-- The first so many numbers are those of the lines of all rows that stand so.
+pub record RoomRows (order rooms number fates numbers : List ℕ) (filled : ℕ) : Type 0 where
   pub few : filled ≤ most_row_numbers
-  pub whole : length numbers ≡ most_row_numbers
-  pub lines_are : tab_rows row_fields (take filled numbers) ≡ lines
-
--- They are those of the lines of all rows that stand so.
-abbrev pub RoomRows : (count : ℕ) (order rooms number fates numbers : List ℕ) (filled : ℕ) → Type 0
-RoomRows count order rooms number fates numbers filled =
-    (rows : List TurnRoom) → length rows ≡ count → RowsBy rows order rooms number fates
-    → NumbersOf (room_lines_from 1 rows) numbers filled
+  pub lines : (rows : List TurnRoom) → length rows ≡ length order → RowsBy rows order rooms number fates
+      → tab_rows row_fields (take filled numbers) ≡ room_lines_from 1 rows

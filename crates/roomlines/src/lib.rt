@@ -2,151 +2,109 @@
 #![tactic(auto)]
 
 ghost use Rattle.std.specs.Prelude.{◌≡◌, ◌≤◌, length};
+ghost use Rattle.beside.specs.Listed.{Listable, taken_for, wrote};
 ghost use Rattle.digits.specs.Rows.{tab_rows};
-ghost use Rattle.listing.specs.Listed.{wrote};
-ghost use Rattle.plans.specs.Promises.{Plannable};
-ghost use Rattle.roomlines.specs.Promises.{NumbersOf, RoomRows, TurnPlaces, most_row_numbers, row_fields};
-ghost use Rattle.rules.specs.Refusals.{check, taken, written};
+ghost use Rattle.roomlines.specs.Promises.{RoomRows, TurnPlaces, most_row_numbers, row_fields};
+ghost use Rattle.rules.specs.Answers.{fates_as_numbers};
+ghost use Rattle.rules.specs.Refusals.{taken, written};
 ghost use Rattle.rules.specs.Rooms.{room_lines_for, room_listing, room_listing_with};
-ghost use Rattle.rules.specs.TableText.{records_of, with_budget};
+ghost use Rattle.rules.specs.TableText.{records_of};
 
+use beside::{list_refusal, read_with};
 use checks::check_table;
+use columns::Columns;
 use plans::{course_of, terms_of};
-use reader::read;
-use records::budget_in_range;
-use rules::{MOST_JOBS, NO_FATE, Refusal, Table, Verdict, Written};
+use rules::{Fate, MOST_JOBS, Refusal, Refused, Table};
+use trials::Plan;
 
 // A line has four numbers, and there is at most one for each job.
 const ROW_FIELDS: usize = 4;
 
 const MOST_ROW_NUMBERS: usize = ROW_FIELDS * MOST_JOBS;
 
-// The numbers of the turns' lines, and how many they are. The fates are those that the course leaves: at the place of a job that
-// had a turn it is the fate of that turn.
-fn room_rows<'a>(
-    count: usize,
-    order: &'a [u64; MOST_JOBS],
-    rooms: &'a [u64; MOST_JOBS],
-    number: &'a [u64; MOST_JOBS],
-    fates: &'a [u64; MOST_JOBS],
+// The numbers of the turns' lines, by the places of their jobs and the rooms after them, and how many they are. The fates are those
+// that the course leaves: at the place of a job that had a turn it is the fate of that turn.
+fn room_rows(
+    order: &[u64],
+    rooms: &[u64; MOST_JOBS],
+    number: &[u64; MOST_JOBS],
+    fates: &[Option<Fate>; MOST_JOBS],
     rows: &mut [u64; MOST_ROW_NUMBERS],
 ) -> usize
-    requires { TurnPlaces «count» order.now × (length rows.old ≡ most_row_numbers) }
-    ensures { RoomRows «count» order.now rooms.now number.now fates.now rows.new result }
+    requires { TurnPlaces order.now }
+    ensures { RoomRows order.now rooms.now number.now (fates_as_numbers fates.now) rows.new result }
 {
     let mut filled = 0;
-    let mut turn = 0;
-    while turn < count {
-        let place = order[turn] as usize;
+    for (turn, &noted) in order.iter().enumerate() {
+        let place = noted as usize;
+        let fate = fates[place].map_or(0, u64::from);
         rows[filled] = turn as u64 + 1;
         rows[filled + 1] = number[place];
         rows[filled + 2] = rooms[turn];
-        rows[filled + 3] = fates[place];
+        rows[filled + 3] = fate;
         filled += ROW_FIELDS;
-        turn += 1;
     }
     filled
 }
 
-// The same of a table that was read, with the budget beside it. The check is there to make the columns: it refuses nothing.
-fn rows_of(table: Table, budget: u64, rows: &mut [u64; MOST_ROW_NUMBERS]) -> usize
-    requires { Plannable table budget × (check table ≡ taken (records_of table)) × (length rows.old ≡ most_row_numbers) }
-    ensures { NumbersOf (room_lines_for (taken (with_budget (records_of table) budget))) rows.new result }
-{
-    let mut number = [0; MOST_JOBS];
-    let mut cycles = [0; MOST_JOBS];
-    let mut worth = [0; MOST_JOBS];
-    let mut critical = [0; MOST_JOBS];
-    let mut termination = [0; MOST_JOBS];
-    let mut request = [0; MOST_JOBS];
-    check_table(
-        &mut number,
-        &mut cycles,
-        &mut worth,
-        &mut critical,
-        &mut termination,
-        &mut request,
-        table,
-    );
-    let speeds = table.speeds;
-    let holds = table.holds;
-    let terms = terms_of(
-        table.clock,
-        budget,
-        speeds,
-        table.speed_count,
-        table.job_count,
-    );
-    let mut order = [0; MOST_JOBS];
-    let mut rooms = [0; MOST_JOBS];
-    let mut places = [0; MOST_JOBS];
-    let mut fates = [NO_FATE; MOST_JOBS];
-    let course = course_of(
-        &mut places,
-        &mut fates,
-        holds,
-        table.hold_count,
-        &number,
-        &cycles,
-        &mut worth,
-        &critical,
-        &termination,
-        &request,
-        terms,
-        &mut order,
-        &mut rooms,
-    );
-    room_rows(course.turns, &order, &rooms, &number, &fates, rows)
-}
-
 // The tab lines of these numbers, where there is room for them.
-fn list_rows(rows: &[u64], out: &mut [u8]) -> Written
+fn list_rows(rows: &[u64], out: &mut [u8]) -> Result<usize, Refused>
     requires { length rows.now ≤ most_row_numbers }
     ensures { wrote result out.new ≡ written (tab_rows row_fields rows.now) out.old }
 {
     if out.len() < digits::tab_rows_length(rows, ROW_FIELDS) {
-        return Written::Refused(Refusal::Room, 0);
+        return Err(Refusal::Room.at(0));
     }
-    Written::Length(digits::put_tab_rows(out, 0, rows, ROW_FIELDS))
+    Ok(digits::put_rows(out, 0, None, rows, ROW_FIELDS))
 }
 
-// The lines of a valid table, with the budget beside it, where there is room for them.
-fn list_table(table: Table, budget: u64, out: &mut [u8]) -> Written
-    requires { Plannable table budget × (check table ≡ taken (records_of table)) }
-    ensures { wrote result out.new ≡ written (room_lines_for (taken (with_budget (records_of table) budget))) out.old }
+// The lines of a valid table, where there is room for them. The check is there to make the columns: it refuses nothing.
+#[inline(never)]
+fn list_table(table: &Table, out: &mut [u8]) -> Result<usize, Refused>
+    requires { Listable table.now }
+    ensures { wrote result out.new ≡ written (room_lines_for (taken (records_of table.now))) out.old }
 {
+    let mut jobs = Columns::new();
+    let _ = check_table(&mut jobs, table);
+    let terms = terms_of(table, table.budget);
+    let holds = &table.holds[..table.hold_count];
+    let mut plan = Plan::empty();
+    let mut fates = [None; MOST_JOBS];
+    let mut order = [0; MOST_JOBS];
+    let mut rooms = [0; MOST_JOBS];
+    let turns = course_of(
+        &mut plan, &mut fates, holds, &jobs, terms, &mut order, &mut rooms,
+    );
     let mut rows = [0; MOST_ROW_NUMBERS];
-    let end = rows_of(table, budget, &mut rows);
+    let end = room_rows(&order[..turns], &rooms, &jobs.number, &fates, &mut rows);
     list_rows(&rows[..end], out)
+}
+
+// The lines of a text, as its table's, or the line of its listing where it is refused.
+fn list_text(text: &[u8], beside: Option<u64>, out: &mut [u8]) -> Result<usize, Refused>
+    ensures { wrote result out.new ≡ written (room_lines_for (taken_for beside text.now)) out.old }
+{
+    let mut table = Table::without_records();
+    match read_with(&mut table, text, beside) {
+        Ok(()) => list_table(&table, out),
+        Err(refused) => list_refusal(refused, out),
+    }
 }
 
 // What the program prints for a text when it is asked for the rooms, with the text's own budget, at the front of a lent buffer,
 // and its length; or else nothing is changed, and the answer is that there is no room. A refused text has the line of its
 // listing.
-pub fn list_rooms(text: &[u8], out: &mut [u8]) -> Written
+#[tactic(auto, unfolding(rules::specs::Rooms::room_listing))]
+pub fn list_rooms(text: &[u8], out: &mut [u8]) -> Result<usize, Refused>
     ensures { wrote result out.new ≡ written (room_listing text.now) out.old }
 {
-    let reading = read(text);
-    let verdict = reading.verdict;
-    if let Verdict::Refused(_, _) = verdict {
-        return listing::list(text, out);
-    }
-    let table = reading.table;
-    list_table(table, table.budget, out)
+    list_text(text, None, out)
 }
 
 // The same with a budget beside the text: the text's own refusal first, then that of the budget.
-pub fn list_rooms_with_budget(text: &[u8], budget: u64, out: &mut [u8]) -> Written
+#[tactic(auto, unfolding(rules::specs::Rooms::room_listing_with))]
+pub fn list_rooms_with_budget(text: &[u8], budget: u64, out: &mut [u8]) -> Result<usize, Refused>
     ensures { wrote result out.new ≡ written (room_listing_with text.now budget) out.old }
 {
-    let reading = read(text);
-    let verdict = reading.verdict;
-    if let Verdict::Refused(_, _) = verdict {
-        return listing::list_with_budget(text, budget, out);
-    }
-    if !budget_in_range(budget) {
-        return listing::list_with_budget(text, budget, out);
-    }
-    let table = reading.table;
-    list_table(table, budget, out)
+    list_text(text, Some(budget), out)
 }

@@ -1,20 +1,17 @@
 -- Our own cases: a second table and claim. They refuse readings of documents 01 and 02 that the sheet lets pass.
-use Rattle.std.specs.Prelude.{List, [], ◌∷◌, ◌++◌, map, ℕ, zero, suc, ◌+◌, ◌-◌, ◌*◌, replicate}
+use Rattle.std.specs.Prelude.{List, [], ◌∷◌, ◌++◌, map, Ok, ℕ, zero, suc, ◌+◌, ◌-◌, ◌*◌, replicate}
 use Prim.Native.String.{String}
-use Rattle.rules.specs.Answers.{decision_says, panel_says, written_says}
+use Rattle.rules.specs.Answers.{decision_says, panel_says, refuses, written_says}
 use Rattle.rules.specs.Bytes.{bytes}
 use Rattle.rules.specs.Case.{Case, Checking, Judging, Planning, Telling, checks, judges, lists, lists_rooms, lists_with, plans, reads, tells, writes}
 use Rattle.rules.specs.Refusals.{reading}
 use Rattle.rules.specs.Sheet.{case_s}
 use Rattle.rules.specs.TableText.{Record, Records, most_budget, most_jobs, no_records, record_text, table_of, table_with_budget, with_clock, with_counts, with_holds, with_jobs, with_speeds}
-use Rattle.rules.specs.declared.Decision.{Decision}
 use Rattle.rules.specs.declared.Job.{Job}
 use Rattle.rules.specs.declared.Hold.{Hold}
-use Rattle.rules.specs.declared.Panel.{Panel}
 use Rattle.rules.specs.declared.Refusal.{Refusal}
 use Rattle.rules.specs.declared.Speed.{Speed}
 use Rattle.rules.specs.declared.Table.{Table}
-use Rattle.rules.specs.declared.Written.{Written}
 
 -- a line, and the number that it gets
 abbrev line : String → ℕ → Judging
@@ -82,7 +79,7 @@ turned_away t budget orders fates why line = record {
   order = replicate orders 8;
   fates = replicate fates 9;
   part = [];
-  after = record { answer = decision_says (Decision.Refused why line); order = replicate orders 8; fates = replicate fates 9 };
+  after = record { answer = decision_says (refuses why line); order = replicate orders 8; fates = replicate fates 9 };
 }
 
 -- what the panel's call leaves of two buffers of so many places: some turns' jobs and rooms, and 0 behind them
@@ -94,7 +91,7 @@ told t budget turns rooms count room = record {
   rooms = replicate (most_jobs + 2) 9;
   after =
       record {
-        answer = panel_says (Panel.Told count room);
+        answer = panel_says (Ok (record { turns = count; room = room }));
         turns = turns ++ replicate (most_jobs - count) 0;
         rooms = rooms ++ replicate (most_jobs + 2 - count) 0;
       };
@@ -107,7 +104,7 @@ untold t budget turns rooms why line = record {
   budget = budget;
   turns = replicate turns 8;
   rooms = replicate rooms 9;
-  after = record { answer = panel_says (Panel.Refused why line); turns = replicate turns 8; rooms = replicate rooms 9 };
+  after = record { answer = panel_says (refuses why line); turns = replicate turns 8; rooms = replicate rooms 9 };
 }
 
 unfoldable pub cases : List Case
@@ -210,15 +207,15 @@ cases =
     ∷ [])
     -- The text is the front of the buffer; room for it exactly, and a byte too little.
     ∷ writes
-    (record { table = counted 1 0 0 1 0 0; out = "xxxxxxxxxxxxxx"; answer = written_says (Written.Length 12); after = "T\t7\t9\nF\t1\t1\nxx" }
+    (record { table = counted 1 0 0 1 0 0; out = "xxxxxxxxxxxxxx"; answer = written_says (Ok 12); after = "T\t7\t9\nF\t1\t1\nxx" }
     ∷ record {
       table = table_of (records 7 9 (record { mhz = 3; cost = 4 } ∷ []) (one ∷ []) (held 7 ∷ []));
       out = "xxxxxxxxxxxxxxxxxxxxxxxxxxxxxxxx";
-      answer = written_says (Written.Length 32);
+      answer = written_says (Ok 32);
       after = "T\t7\t9\nF\t3\t4\nJ\t1\t2\t3\t4\t5\t6\nH\t7\t1\n";
     }
-    ∷ record { table = counted 1 0 0 1 0 0; out = "xxxxxxxxxxx"; answer = written_says (Written.Refused Refusal.Room 0); after = "xxxxxxxxxxx" }
-    ∷ record { table = counted 1 0 0 0 0 0; out = "x"; answer = written_says (Written.Refused Refusal.Order 2); after = "x" }
+    ∷ record { table = counted 1 0 0 1 0 0; out = "xxxxxxxxxxx"; answer = written_says (refuses Refusal.Room 0); after = "xxxxxxxxxxx" }
+    ∷ record { table = counted 1 0 0 0 0 0; out = "x"; answer = written_says (refuses Refusal.Order 2); after = "x" }
     ∷ [])
     -- The buffers: zeros to the end, of long ones too; refused: as they were.
     ∷ plans
@@ -230,7 +227,7 @@ cases =
       part = 5 ∷ 4 ∷ [];
       after =
           record {
-            answer = decision_says (Decision.Plan 2 800 4500);
+            answer = decision_says (Ok (record { count = 2; speed = 800; energy = 4500 }));
             order = 5 ∷ 4 ∷ replicate (most_jobs - 2) 0;
             fates = 2 ∷ 5 ∷ 6 ∷ 1 ∷ 1 ∷ replicate (most_jobs - 3) 0;
           };
@@ -244,7 +241,7 @@ cases =
       part = 3 ∷ 5 ∷ 4 ∷ [];
       after =
           record {
-            answer = decision_says (Decision.Plan 3 1000 10000);
+            answer = decision_says (Ok (record { count = 3; speed = 1000; energy = 10000 }));
             order = 3 ∷ 5 ∷ 4 ∷ replicate (most_jobs - 3) 0;
             fates = 2 ∷ 5 ∷ 1 ∷ 1 ∷ 1 ∷ replicate (most_jobs - 5) 0;
           };

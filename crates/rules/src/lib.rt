@@ -4,8 +4,9 @@
 #![tactic(auto)]
 
 ghost use Rattle.std.specs.Prelude.{◌≡◌};
-ghost use Rattle.rules.specs.Answers.{number_of};
+ghost use Rattle.rules.specs.Answers.{fate_number, number_of};
 ghost use Rattle.rules.specs.Lists.{within};
+ghost use Rattle.rules.specs.TableText.{no_records, table_of};
 
 // How many speeds, jobs and holds a table has places for.
 pub const MOST_SPEEDS: usize = 16;
@@ -20,26 +21,11 @@ pub const MOST_FIELDS: usize = 6;
 // The most cycles of a job, in millions, and the most that are allocated.
 pub const MOST_CYCLES: u64 = 1000000;
 
-// Fates, as steps 1, 2, 5, 7 and 8 number them, and that of a job which has none yet.
-pub const NO_FATE: u64 = 0;
-
-pub const FATE_PLANNED: u64 = 1;
-
-pub const FATE_LATE: u64 = 2;
-
-pub const FATE_DEADLOCK: u64 = 3;
-
-pub const FATE_RATIO_ZERO: u64 = 4;
-
-pub const FATE_TIME: u64 = 5;
-
-pub const FATE_BUDGET: u64 = 6;
-
 // The test that every range is: from low to high, both counted in.
 pub fn within(low: u64, high: u64, n: u64) -> bool
     ensures { result ≡ within low high n }
 {
-    low <= n && n <= high
+    (low..=high).contains(&n)
 }
 
 // An F line.
@@ -85,95 +71,112 @@ pub struct Table {
     pub holds: [Hold; MOST_HOLDS],
 }
 
-// What a refusal says, in the order of its numbers, from 1.
-#[derive(Clone, Copy)]
-pub enum Refusal {
-    Shape,
-    Range,
-    Order,
-    TooMany,
-    CriticalAfterTermination,
-    UnknownJob,
-    OwnRequest,
-    Room,
-    Model,
-    Allocation,
-}
+// What stands in the places of a table without records.
+const NO_SPEED: Speed = Speed { mhz: 0, cost: 0 };
 
-// The one place where code turns a refusal into its number.
-pub fn number_of(refusal: Refusal) -> u64
-    ensures { result ≡ number_of refusal }
-{
-    match refusal {
-        Refusal::Shape => 1,
-        Refusal::Range => 2,
-        Refusal::Order => 3,
-        Refusal::TooMany => 4,
-        Refusal::CriticalAfterTermination => 5,
-        Refusal::UnknownJob => 6,
-        Refusal::OwnRequest => 7,
-        Refusal::Room => 8,
-        Refusal::Model => 9,
-        Refusal::Allocation => 10,
+const NO_JOB: Job = Job {
+    number: 0,
+    cycles: 0,
+    worth: 0,
+    critical: 0,
+    termination: 0,
+    request: 0,
+};
+
+const NO_HOLD: Hold = Hold {
+    resource: 0,
+    holder: 0,
+};
+
+impl Table {
+    // The table without records, which stands where a text is refused.
+    pub fn without_records() -> Table
+        ensures { result ≡ table_of no_records }
+    {
+        Table {
+            clock: 0,
+            budget: 0,
+            speed_count: 0,
+            job_count: 0,
+            hold_count: 0,
+            speeds: [NO_SPEED; MOST_SPEEDS],
+            jobs: [NO_JOB; MOST_JOBS],
+            holds: [NO_HOLD; MOST_HOLDS],
+        }
     }
 }
 
-// A field is either a number or the refusal of its line.
-#[derive(Clone, Copy)]
-pub enum Field {
-    Number(u64),
-    Refused(Refusal, u64),
+// What a refusal says, with its number.
+#[derive(Clone, Copy, PartialEq, Eq)]
+pub enum Refusal {
+    Shape = 1,
+    Range = 2,
+    Order = 3,
+    TooMany = 4,
+    CriticalAfterTermination = 5,
+    UnknownJob = 6,
+    OwnRequest = 7,
+    Room = 8,
+    Model = 9,
+    Allocation = 10,
 }
 
-// The cycles allocated, or the refusal and its line.
-#[derive(Clone, Copy)]
-pub enum Allocated {
-    Cycles(u64),
-    Refused(Refusal, u64),
+// The one place where code turns a refusal into its number.
+impl From<Refusal> for u64 {
+    ghost from_gives = { λ refusal n. n ≡ number_of refusal };
+
+    fn from(refusal: Refusal) -> u64 {
+        refusal as u64
+    }
 }
 
-// What stands beside an answer that is too large for an enum.
-#[derive(Clone, Copy)]
-pub enum Verdict {
-    Done,
-    Refused(Refusal, u64),
+// A refusal and its line: what each call answers in the place of its result.
+#[derive(Clone, Copy, PartialEq, Eq)]
+pub struct Refused {
+    pub why: Refusal,
+    pub line: u64,
 }
 
-// A cost model's seven costs; refused: seven zeros.
-#[derive(Clone, Copy)]
-pub struct Supplied {
-    pub verdict: Verdict,
-    pub costs: [u64; 7],
+impl Refusal {
+    // The refusal of a line.
+    pub fn at(self, line: u64) -> Refused
+        ensures { result ≡ record { why = self; line = line } }
+    {
+        Refused { why: self, line }
+    }
 }
 
-// A text's table; refused: the table without records.
-#[derive(Clone, Copy)]
-pub struct Reading {
-    pub verdict: Verdict,
-    pub table: Table,
+// Why a job runs or does not, with the number that steps 1, 2, 5, 7 and 8 give it.
+#[derive(Clone, Copy, PartialEq, Eq)]
+pub enum Fate {
+    Planned = 1,
+    Late = 2,
+    Deadlock = 3,
+    RatioZero = 4,
+    Time = 5,
+    Budget = 6,
 }
 
-// How many bytes were written to the front of a lent buffer, or the refusal and its line.
-#[derive(Clone, Copy)]
-pub enum Written {
-    Length(usize),
-    Refused(Refusal, u64),
+// The one place where code turns a fate into its number.
+impl From<Fate> for u64 {
+    ghost from_gives = { λ fate n. n ≡ fate_number fate };
+
+    fn from(fate: Fate) -> u64 {
+        fate as u64
+    }
 }
 
-// A plan's job count, speed and energy, or the refusal and its line.
-#[derive(Clone, Copy)]
-pub enum Decision {
-    Plan {
-        count: usize,
-        speed: u64,
-        energy: u64,
-    },
-    Refused(Refusal, u64),
+// A plan's job count, speed and energy.
+#[derive(Clone, Copy, PartialEq, Eq)]
+pub struct Decision {
+    pub count: usize,
+    pub speed: u64,
+    pub energy: u64,
 }
 
-// The panel's answer: how many turns there were and the room that is left at the end, or the refusal and its line.
-#[derive(Clone, Copy)]
-pub enum Panel {
-    Told { turns: usize, room: u64 },
-    Refused(Refusal, u64),
+// The panel's answer: how many turns there were and the room that is left at the end.
+#[derive(Clone, Copy, PartialEq, Eq)]
+pub struct Panel {
+    pub turns: usize,
+    pub room: u64,
 }

@@ -1,6 +1,6 @@
 // A text that is read, and written again.
 use crate::report::{put, put_numbers, put_refusal, put_written};
-use rules::{Table, Verdict, Written};
+use rules::Table;
 
 // A byte that no text has.
 const MARK: u8 = b'.';
@@ -8,32 +8,9 @@ const MARK: u8 = b'.';
 // Room for the longest text.
 const MOST_WRITTEN: usize = 4096;
 
-// Whether the buffer begins with the text.
-fn begins_with(buffer: &[u8], text: &[u8]) -> bool {
-    let mut i = 0;
-    while i < text.len() {
-        if i >= buffer.len() {
-            return false;
-        }
-        if buffer[i] != text[i] {
-            return false;
-        }
-        i += 1;
-    }
-    true
-}
-
 // How many places of the buffer still have their mark.
 fn marks(buffer: &[u8]) -> usize {
-    let mut left: usize = 0;
-    let mut i = 0;
-    while i < buffer.len() {
-        if buffer[i] == MARK {
-            left += 1;
-        }
-        i += 1;
-    }
-    left
+    buffer.iter().filter(|byte| **byte == MARK).count()
 }
 
 // Writes a table: the answer, and how many marks are left.
@@ -46,31 +23,25 @@ pub(crate) fn write(out: &impl Print, table: Table) {
 // Whether the text that is written is the one that was read.
 fn put_whether_same(out: &impl Print, table: Table, text: &[u8]) {
     let mut buffer = [MARK; MOST_WRITTEN];
-    let written = writer::write(table, &mut buffer);
-    let Written::Length(count) = written else {
+    let Ok(count) = writer::write(table, &mut buffer) else {
         return;
     };
-    if count == text.len() && begins_with(&buffer, text) {
+    if count == text.len() && buffer.starts_with(text) {
         put(out, b"same bytes\n");
     } else {
         put(out, b"other bytes\n");
     }
 }
 
-fn put_verdict(out: &impl Print, verdict: Verdict) {
-    match verdict {
-        Verdict::Done => put(out, b"read\n"),
-        Verdict::Refused(why, line) => put_refusal(out, why, line),
-    }
-}
-
-// The verdict, the table's T line and counts, and the table written again. A refused text has the table without records,
+// What reading answers, the table's T line and counts, and the table written again. A refused text has the table without records,
 // which the writer refuses.
 pub(crate) fn read_and_write(out: &impl Print, text: &[u8]) {
-    let reading = reader::read(text);
-    let verdict = reading.verdict;
-    put_verdict(out, verdict);
-    let table = reading.table;
+    let read = reader::read(text);
+    match read {
+        Ok(_) => put(out, b"read\n"),
+        Err(refused) => put_refusal(out, refused),
+    }
+    let table = read.unwrap_or(Table::without_records());
     put_numbers(out, b"T", &[table.clock, table.budget]);
     let counts = [
         table.speed_count as u64,

@@ -52,10 +52,10 @@ fn speeds(out: &impl Print, table: Table) {
 // A job that is otherwise good.
 fn bent_job(number: u64, critical: u64, worth: u64) -> Job {
     Job {
-        number: number,
+        number,
         cycles: 1,
-        worth: worth,
-        critical: critical,
+        worth,
+        critical,
         termination: 0,
         request: 0,
     }
@@ -96,8 +96,7 @@ fn holds(out: &impl Print, table: Table) {
 }
 
 pub(crate) fn each_way(out: &impl Print, text: &[u8]) {
-    let reading = reader::read(text);
-    let table = reading.table;
+    let table = reader::read(text).unwrap_or(Table::without_records());
     counts(out, table);
     clock(out, table);
     speeds(out, table);

@@ -2,7 +2,6 @@
 // field is told with the line that it stands in; the first that is refused ends the walk, and so does the end of the last line.
 use crate::report::{put_numbers, put_refusal};
 use front::Kind;
-use rules::Field;
 use text::{Cursor, field_count};
 
 // No text that is walked has more fields.
@@ -10,13 +9,11 @@ const MOST_TAKEN: usize = 1000;
 
 // Which field comes next, by how many numbers the line still has: a letter, a number, or the line's last.
 fn kind_of(left: u64) -> Kind {
-    if left == 0 {
-        return Kind::Letter;
+    match left {
+        0 => Kind::Letter,
+        1 => Kind::Last,
+        _ => Kind::Number,
     }
-    if left == 1 {
-        return Kind::Last;
-    }
-    Kind::Number
 }
 
 // How many numbers the line still has behind a field.
@@ -43,14 +40,13 @@ pub(crate) fn every_field(out: &impl Print, text: &[u8]) {
             return;
         }
         let taken = front::take(text, place, kind_of(left));
-        let field = taken.field;
-        match field {
-            Field::Number(value) => {
+        match taken.field {
+            Ok(value) => {
                 put_field(out, left, place.line, value);
                 left = left_behind(left, value);
             }
-            Field::Refused(why, line) => {
-                put_refusal(out, why, line);
+            Err(refused) => {
+                put_refusal(out, refused);
                 return;
             }
         }

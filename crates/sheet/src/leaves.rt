@@ -1,12 +1,11 @@
 // The cycles to allocate and the supplied costs.
 use crate::report::{put_numbers, put_refusal};
-use rules::{Allocated, Verdict};
 
 fn put_allocation(out: &impl Print, mean: u64, variance: u64, assurance: u64) {
     put_numbers(out, b"# allocate", &[mean, variance, assurance]);
     match cycles::allocate(mean, variance, assurance) {
-        Allocated::Cycles(allocated) => put_numbers(out, b"cycles", &[allocated]),
-        Allocated::Refused(why, line) => put_refusal(out, why, line),
+        Ok(allocated) => put_numbers(out, b"cycles", &[allocated]),
+        Err(refused) => put_refusal(out, refused),
     }
 }
 
@@ -30,12 +29,10 @@ pub(crate) fn allocations(out: &impl Print) {
 fn supply(out: &impl Print, model: u64) {
     put_numbers(out, b"# supplied", &[model]);
     let supplied = costs::supplied(model);
-    let verdict = supplied.verdict;
-    if let Verdict::Refused(why, line) = verdict {
-        put_refusal(out, why, line);
+    if let Err(refused) = supplied {
+        put_refusal(out, refused);
     }
-    let costs = supplied.costs;
-    put_numbers(out, b"costs", &costs);
+    put_numbers(out, b"costs", &supplied.unwrap_or([0; 7]));
 }
 
 // The three models and those beside them; a refusal has seven zero costs.

@@ -148,8 +148,7 @@ fn count_words(words: &impl Env) -> usize {
 
 fn main(rt: HostRuntime) {
     let mut say = rt.stderr();
-    let count = count_words(&rt);
-    for i in 1..count {
+    for i in 1..count_words(&rt) {
         run_argument(&rt, &mut say, i);
     }
     leaves::allocations(&rt);

@@ -3,7 +3,7 @@ ghost use Rattle.std.specs.Prelude.{◌≤◌, ◌≡◌};
 ghost use Rattle.rules.specs.Plan.{part_of, planning_with};
 
 use crate::report::{put_decision, put_numbers, put_part_name, put_refusal};
-use rules::{Decision, Table, Verdict};
+use rules::{Decision, Refused, Table};
 
 pub(crate) const MARK: u64 = 7;
 
@@ -50,7 +50,11 @@ fn plan_handed_back(out: &impl Print, table: Table, budget: u64) {
 }
 
 // The decision and the part, which is handed back.
-fn put_planned<'a>(out: &impl Print, part: &'a mut [u64], decision: Decision) -> &'a mut [u64]
+fn put_planned<'a>(
+    out: &impl Print,
+    part: &'a mut [u64],
+    decision: Result<Decision, Refused>,
+) -> &'a mut [u64]
     ensures { (result.now ≡ part.old) × (result.ref_ptr ≡ part.entry.ref_ptr) }
 {
     put_decision(out, decision);
@@ -91,14 +95,10 @@ fn in_three_ways(out: &impl Print, table: Table, budget: u64) {
 
 // The table of a text with its own budget; a refused text has no plan.
 pub(crate) fn all_three(out: &impl Print, text: &[u8]) {
-    let reading = reader::read(text);
-    let verdict = reading.verdict;
-    if let Verdict::Refused(why, line) = verdict {
-        put_refusal(out, why, line);
-        return;
+    match reader::read(text) {
+        Ok(table) => in_three_ways(out, table, table.budget),
+        Err(refused) => put_refusal(out, refused),
     }
-    let table = reading.table;
-    in_three_ways(out, table, table.budget);
 }
 
 // `plan_into` with a budget beside the table, under a name.
@@ -110,8 +110,7 @@ fn plan_with(out: &impl Print, name: &[u8], table: Table, budget: u64) {
 // The text read once, and its table planned with several budgets beside it. A refused text has the table without records, which
 // is refused as well.
 pub(crate) fn turn_the_knob(out: &impl Print, text: &[u8]) {
-    let reading = reader::read(text);
-    let table = reading.table;
+    let table = reader::read(text).unwrap_or(Table::without_records());
     plan_with(out, b"its own budget", table, table.budget);
     plan_with(out, b"budget 0", table, 0);
     plan_with(out, b"the most budget", table, MOST_BUDGET);

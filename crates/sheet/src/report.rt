@@ -1,5 +1,5 @@
 // The lines of the report. Where they cannot be printed that is not said: the report then differs.
-use rules::{Decision, Refusal, Written};
+use rules::{Decision, Refused};
 
 pub(crate) fn put(out: &impl Print, bytes: &[u8]) {
     let _ = out.write_all(bytes);
@@ -27,50 +27,37 @@ pub(crate) fn put_part_name(out: &impl Print, name: &[u8]) {
 // A line of numbers.
 pub(crate) fn put_numbers(out: &impl Print, name: &[u8], numbers: &[u64]) {
     put(out, name);
-    let mut i = 0;
-    while i < numbers.len() {
-        put_number(out, numbers[i]);
-        i += 1;
+    for number in numbers {
+        put_number(out, *number);
     }
     put(out, b"\n");
 }
 
 // "A refusal prints only R number line."
-pub(crate) fn put_refusal(out: &impl Print, why: Refusal, line: u64) {
-    put(out, b"R");
-    put_number(out, rules::number_of(why));
-    put_number(out, line);
-    put(out, b"\n");
+pub(crate) fn put_refusal(out: &impl Print, refused: Refused) {
+    put_numbers(out, b"R", &[refused.why.into(), refused.line]);
 }
 
 // "P speed energy count".
-pub(crate) fn put_decision(out: &impl Print, decision: Decision) {
+pub(crate) fn put_decision(out: &impl Print, decision: Result<Decision, Refused>) {
     match decision {
-        Decision::Plan {
-            count,
-            speed,
-            energy,
-        } => put_numbers(out, b"P", &[speed, energy, count as u64]),
-        Decision::Refused(why, line) => put_refusal(out, why, line),
+        Ok(plan) => put_numbers(out, b"P", &[plan.speed, plan.energy, plan.count as u64]),
+        Err(refused) => put_refusal(out, refused),
     }
 }
 
 // How many bytes were written.
-pub(crate) fn put_written(out: &impl Print, written: Written) {
+pub(crate) fn put_written(out: &impl Print, written: Result<usize, Refused>) {
     match written {
-        Written::Length(count) => put_numbers(out, b"bytes", &[count as u64]),
-        Written::Refused(why, line) => put_refusal(out, why, line),
+        Ok(count) => put_numbers(out, b"bytes", &[count as u64]),
+        Err(refused) => put_refusal(out, refused),
     }
 }
 
 // The bytes that were written to the front of a buffer.
-pub(crate) fn put_listing(out: &impl Print, written: Written, lines: &[u8]) {
+pub(crate) fn put_listing(out: &impl Print, written: Result<usize, Refused>, lines: &[u8]) {
     match written {
-        Written::Length(count) => {
-            if count <= lines.len() {
-                put(out, &lines[..count]);
-            }
-        }
-        Written::Refused(why, line) => put_refusal(out, why, line),
+        Ok(count) => put(out, lines.get(..count).unwrap_or(b"")),
+        Err(refused) => put_refusal(out, refused),
     }
 }

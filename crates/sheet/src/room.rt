@@ -1,73 +1,50 @@
 // The calls that are lent a buffer, with as many places as they need and with one fewer.
 use crate::plan::{PLACES, plan_into_places};
 use crate::report::{put, put_part_name, put_written};
-use rules::{Table, Written};
+use rules::{Refused, Table};
 
 const MARK: u8 = b'.';
 
 const BYTES: usize = 64;
 
-// How many bytes were written, 0 where refused.
-fn bytes_written(written: Written) -> usize {
-    match written {
-        Written::Length(count) => count,
-        Written::Refused(_, _) => 0,
+// A call, with so many places of a buffer: the answer and the whole buffer. How many bytes were written, 0 where refused.
+fn in_places<F: Fn(&mut [u8]) -> Result<usize, Refused>>(
+    out: &impl Print,
+    places: usize,
+    call: &F,
+) -> usize
+    requires { F.IsAlwaysCallable call.now }
+{
+    if places > BYTES {
+        return 0;
     }
-}
-
-// The answer and the whole buffer.
-fn put_buffer(out: &impl Print, written: Written, buffer: &[u8; BYTES]) -> usize {
+    let mut buffer = [MARK; BYTES];
+    let written = call(&mut buffer[..places]);
     put_written(out, written);
-    put(out, buffer);
+    put(out, &buffer);
     put(out, b"\n");
-    bytes_written(written)
+    written.unwrap_or(0)
 }
 
-// `list`, with so many places of the buffer.
-fn list_places(out: &impl Print, text: &[u8], places: usize) -> usize {
-    if places > BYTES {
-        return 0;
-    }
-    let mut buffer = [MARK; BYTES];
-    let written = listing::list(text, &mut buffer[..places]);
-    put_buffer(out, written, &buffer)
-}
-
-// `write`, with so many places of the buffer.
-fn write_places(out: &impl Print, table: Table, places: usize) -> usize {
-    if places > BYTES {
-        return 0;
-    }
-    let mut buffer = [MARK; BYTES];
-    let written = writer::write(table, &mut buffer[..places]);
-    put_buffer(out, written, &buffer)
-}
-
-fn list_rooms(out: &impl Print, text: &[u8]) {
-    let needed = list_places(out, text, BYTES);
+// A call with all places, with as many as it needs and with one fewer.
+fn in_few_places<F: Fn(&mut [u8]) -> Result<usize, Refused>>(out: &impl Print, call: F)
+    requires { F.IsAlwaysCallable call }
+{
+    let needed = in_places(out, BYTES, &call);
     if needed > 0 {
-        list_places(out, text, needed);
-        list_places(out, text, needed - 1);
-    }
-}
-
-fn write_rooms(out: &impl Print, table: Table) {
-    let needed = write_places(out, table, BYTES);
-    if needed > 0 {
-        write_places(out, table, needed);
-        write_places(out, table, needed - 1);
+        in_places(out, needed, &call);
+        in_places(out, needed - 1, &call);
     }
 }
 
 pub(crate) fn each_call(out: &impl Print, text: &[u8]) {
-    let reading = reader::read(text);
-    let table = reading.table;
+    let table = reader::read(text).unwrap_or(Table::without_records());
     put_part_name(out, b"plan_into, 64 and 64 places, 63 and 70, 70 and 63");
     plan_into_places(out, table, table.budget, 64, 64);
     plan_into_places(out, table, table.budget, 63, PLACES);
     plan_into_places(out, table, table.budget, PLACES, 63);
     put_part_name(out, b"list, 64 places, as many as it needs, one fewer");
-    list_rooms(out, text);
+    in_few_places(out, |lent| listing::list(text, lent));
     put_part_name(out, b"write, 64 places, as many as it needs, one fewer");
-    write_rooms(out, table);
+    in_few_places(out, |lent| writer::write(table, lent));
 }

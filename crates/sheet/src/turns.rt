@@ -3,13 +3,13 @@ ghost use Rattle.std.specs.Prelude.{◌≤◌};
 
 use crate::plan::{MARK, MOST_BUDGET, PLACES};
 use crate::report::{put_numbers, put_part_name, put_refusal};
-use rules::{Panel, Table};
+use rules::{Panel, Refused, Table};
 
 // How many turns there were, and the room that is left at the end.
-fn put_panel(out: &impl Print, panel: Panel) {
+fn put_panel(out: &impl Print, panel: Result<Panel, Refused>) {
     match panel {
-        Panel::Told { turns, room } => put_numbers(out, b"left", &[turns as u64, room]),
-        Panel::Refused(why, line) => put_refusal(out, why, line),
+        Ok(panel) => put_numbers(out, b"left", &[panel.turns as u64, panel.room]),
+        Err(refused) => put_refusal(out, refused),
     }
 }
 
@@ -38,8 +38,7 @@ fn rooms_places(out: &impl Print, table: Table, budget: u64, turn_places: usize,
 // The text read once, and the rooms of its table with several budgets beside it. A refused text has the table without records,
 // which is refused as well.
 pub(crate) fn after_each(out: &impl Print, text: &[u8]) {
-    let reading = reader::read(text);
-    let table = reading.table;
+    let table = reader::read(text).unwrap_or(Table::without_records());
     put_part_name(out, b"its own budget");
     rooms_places(out, table, table.budget, PLACES, PLACES);
     put_part_name(out, b"budget 0, 64 and 64 places");

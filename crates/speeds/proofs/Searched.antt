@@ -3,13 +3,13 @@
 use mathlib.Core.Bool.{true, false}
 use mathlib.Core.List.{List}
 use mathlib.Core.Path.{◌≡◌, sym, ap, ◌∙◌}
-use Prim.Native.Nat.{ℕ, ◌*◌, ◌≤◌, ◌<◌}
+use Prim.Native.Nat.{ℕ, ◌+◌, ◌-◌, ◌*◌, ◌≤◌, ◌<◌}
 use native.Mathlib.Nat.{mul-zero}
 use native.Mathlib.Omega.{arith}
 use borrow.Author.Tests.{eqb-false, eqb-true, ltb-false, ltb-true}
 use lib.Dec.{eqb, ltb}
-use lib.ListN.{get_or, length, take}
-use lib.Seq.{get_or-take, length-take-le}
+use lib.ListN.{drop, get_or, length, length-drop}
+use lib.Seq.{get_or-drop}
 use Rattle.grammar.proofs.Ranges.{SpeedRanges, speed_ranges}
 use Rattle.laws.proofs.Choices.{clash, split}
 use Rattle.laws.proofs.Elements.{each_at_place}
@@ -19,7 +19,7 @@ use Rattle.rules.specs.TableText.{Records, no_speed}
 use Rattle.rules.specs.Valid.{Valid}
 use Rattle.rules.specs.declared.Job.{Job}
 use Rattle.rules.specs.declared.Speed.{Speed}
-use Rattle.speeds.specs.Promises.{CheapestFrom}
+use Rattle.speeds.specs.Promises.{CheapestAt}
 use Rattle.steps.proofs.Cheapest.{cheapest_taken, none_taken}
 use Rattle.steps.proofs.Faster.{faster_in_time, slower_late}
 use Rattle.steps.proofs.Qualified.{both_qualify, dear_not_qualified, late_not_qualified}
@@ -33,22 +33,24 @@ pub no_speed_no_energy : (js : List Job) → 0 ≡ energy_at no_speed js
 unfolding energy_at
 no_speed_no_energy js = sym (mul-zero (cycles_of js))
 
-module _ (t : Records) (valid : Valid t) (speeds : List Speed) (count : ℕ) (places : count ≤ length speeds)
-    (of : take count speeds ≡ t.speeds) (js : List Job) where
+module _ (t : Records) (valid : Valid t) (speeds : List Speed) (of : speeds ≡ t.speeds) (js : List Job) where
+  abbrev count : ℕ
+  count = length speeds
+
   abbrev at : ℕ → Speed
   at i = get_or speeds i no_speed
 
   as_many : length t.speeds ≡ count
-  as_many = ap length (sym of) ∙ length-take-le count speeds places
+  as_many = ap length (sym of)
 
-  of_table : (i : ℕ) → i < count → get_or t.speeds i no_speed ≡ at i
-  of_table i h = ap (λ fs. get_or fs i no_speed) (sym of) ∙ get_or-take count speeds i no_speed h
+  of_table : (i : ℕ) → get_or t.speeds i no_speed ≡ at i
+  of_table i = ap (λ fs. get_or fs i no_speed) (sym of)
 
   runs : (i : ℕ) → i < count → 1 ≤ (at i).mhz
   runs i h =
       let r : SpeedRanges (get_or t.speeds i no_speed) =
       speed_ranges (get_or t.speeds i no_speed) (each_at_place no_speed valid.speed_ranges i (omega (arith, as_many))) in
-      rw (of_table i h) at r.mhz_from
+      rw (of_table i) at r.mhz_from
 
   no_slower : (i k : ℕ) → i ≤ k → k < count → (at i).mhz ≤ (at k).mhz
   no_slower i k l h =
@@ -57,7 +59,7 @@ module _ (t : Records) (valid : Valid t) (speeds : List Speed) (count : ℕ) (pl
       (λ e.
       let less : (get_or t.speeds i no_speed).mhz < (get_or t.speeds k no_speed).mhz =
       later_greater (λ (f : Speed). f.mhz) no_speed t.speeds valid.speeds_rise i k (omega (arith, eqb-false i k e)) (omega (arith, as_many)) in
-      let here : (at i).mhz < (at k).mhz = rw (of_table i (omega arith), of_table k h) at less in
+      let here : (at i).mhz < (at k).mhz = rw (of_table i, of_table k) at less in
       omega arith)
 
   pub in_time_above : (i k : ℕ) → i ≤ k → k < count → in_time t.clock (at i).mhz js ≡ true
@@ -70,15 +72,33 @@ module _ (t : Records) (valid : Valid t) (speeds : List Speed) (count : ℕ) (pl
 
   -- no speed qualifies where each is late or over the budget
   none_found : ((i : ℕ) → i < count → qualifies t js (at i) ≡ false) → no_speed ≡ speed_for t js
-  none_found h = none_taken t js (λ i l. rw (of_table i (omega (arith, as_many))) (h i (omega (arith, as_many))))
+  none_found h = none_taken t js (λ i l. rw (of_table i) (h i (omega (arith, as_many))))
 
   pub all_late : ((i : ℕ) → i < count → in_time t.clock (at i).mhz js ≡ false) → no_speed ≡ speed_for t js
   all_late h = none_found (λ i l. late_not_qualified t js (at i) (h i l))
 
-  module _ (first total r : ℕ) (sum : total ≡ cycles_of js) (some_in_time : first < count)
+  -- what is in time stands from a place on; there r is the cheapest
+  module _ (first total r : ℕ) (sum : total ≡ cycles_of js)
       (late_before : (i : ℕ) → i < first → in_time t.clock (at i).mhz js ≡ false)
       (in_time_from : (i : ℕ) → first ≤ i → i < count → in_time t.clock (at i).mhz js ≡ true)
-      (cheapest : CheapestFrom speeds count first total r) where
+      (cheapest : CheapestAt (drop first speeds) total r) where
+    -- from there on, by their places among all
+    behind : (i : ℕ) → get_or (drop first speeds) i no_speed ≡ at (first + i)
+    behind i = get_or-drop first speeds i no_speed
+
+    there : first + r < count
+    there = omega (arith, cheapest.inside, length-drop first speeds)
+
+    none_less : (i : ℕ) → first ≤ i → i < count → total * (at (first + r)).cost ≤ total * (at i).cost
+    none_less i f h =
+        let same : first + (i - first) ≡ i = omega arith in
+        rw (behind r, behind (i - first), same) at (cheapest.none_less (i - first) (omega (arith, length-drop first speeds)))
+
+    before_more : (i : ℕ) → first ≤ i → i < first + r → total * (at (first + r)).cost < total * (at i).cost
+    before_more i f h =
+        let same : first + (i - first) ≡ i = omega arith in
+        rw (behind r, behind (i - first), same) at (cheapest.before_more (i - first) (omega arith))
+
     energy_of : (i : ℕ) → total * (at i).cost ≡ energy_at (at i) js
     energy_of i = energy_reckoned js (at i) total sum
 
@@ -89,48 +109,45 @@ module _ (t : Records) (valid : Valid t) (speeds : List Speed) (count : ℕ) (pl
         (λ l. clash q (late_not_qualified t js (at i) (late_before i (ltb-true i first l))))
         (λ l. ltb-false i first l)
 
-    over_budget : t.budget < total * (at r).cost → no_speed ≡ speed_for t js
+    over_budget : t.budget < total * (at (first + r)).cost → no_speed ≡ speed_for t js
     over_budget dear =
         none_found (λ i h.
         split (ltb i first)
         (λ l. late_not_qualified t js (at i) (late_before i (ltb-true i first l)))
         (λ l.
         dear_not_qualified t js (at i)
-        (rw (energy_of i) at (dearer i (cheapest.none_less i (ltb-false i first l) h)))))
+        (rw (energy_of i) at (dearer i (none_less i (ltb-false i first l) h)))))
       where
-        dearer : (i : ℕ) → total * (at r).cost ≤ total * (at i).cost → t.budget < total * (at i).cost
+        dearer : (i : ℕ) → total * (at (first + r)).cost ≤ total * (at i).cost → t.budget < total * (at i).cost
         dearer i l = omega arith
 
-    in_budget : total * (at r).cost ≤ t.budget → at r ≡ speed_for t js
+    in_budget : total * (at (first + r)).cost ≤ t.budget → at (first + r) ≡ speed_for t js
     in_budget l =
-        sym (of_table r there)
-        ∙ cheapest_taken t js r
+        sym (of_table (first + r))
+        ∙ cheapest_taken t js (first + r)
         (record {
           inside = omega (arith, as_many, there);
-          passes = rw (of_table r there) (both_qualify t js (at r) (in_time_from r cheapest.from_first there) (rw (energy_of r) at l));
+          passes = rw (of_table (first + r)) (both_qualify t js (at (first + r)) (in_time_from (first + r) (omega arith) there) (rw (energy_of (first + r)) at l));
           none_less = λ i h q. no_less i (omega (arith, as_many)) q;
           before_more = more;
         })
       where
-        there : r < count
-        there = cheapest.inside some_in_time
-
         qualified : (i : ℕ) → i < count → qualifies t js (get_or t.speeds i no_speed) ≡ true → first ≤ i
-        qualified i h q = qualified_from i (rw (of_table i h) at q)
+        qualified i h q = qualified_from i (rw (of_table i) at q)
 
         no_less : (i : ℕ) → i < count → qualifies t js (get_or t.speeds i no_speed) ≡ true
-            → energy_at (get_or t.speeds r no_speed) js ≤ energy_at (get_or t.speeds i no_speed) js
+            → energy_at (get_or t.speeds (first + r) no_speed) js ≤ energy_at (get_or t.speeds i no_speed) js
         no_less i h q =
-            rw (of_table r there, of_table i h)
-            (rw (energy_of r, energy_of i) at (cheapest.none_less i (qualified i h q) h))
+            rw (of_table (first + r), of_table i)
+            (rw (energy_of (first + r), energy_of i) at (none_less i (qualified i h q) h))
 
-        more : (i : ℕ) → i < r → qualifies t js (get_or t.speeds i no_speed) ≡ true
-            → energy_at (get_or t.speeds r no_speed) js < energy_at (get_or t.speeds i no_speed) js
+        more : (i : ℕ) → i < first + r → qualifies t js (get_or t.speeds i no_speed) ≡ true
+            → energy_at (get_or t.speeds (first + r) no_speed) js < energy_at (get_or t.speeds i no_speed) js
         more i h q =
             let before : i < count = omega (arith, there) in
-            rw (of_table r there, of_table i before)
-            (rw (energy_of r, energy_of i) at (cheapest.before_more i (qualified i before q) h))
+            rw (of_table (first + r), of_table i)
+            (rw (energy_of (first + r), energy_of i) at (before_more i (qualified i before q) h))
 
-    pub cheapest_decided : (t.budget < total * (at r).cost → no_speed ≡ speed_for t js)
-        × (total * (at r).cost ≤ t.budget → at r ≡ speed_for t js)
+    pub cheapest_decided : (t.budget < total * (at (first + r)).cost → no_speed ≡ speed_for t js)
+        × (total * (at (first + r)).cost ≤ t.budget → at (first + r) ≡ speed_for t js)
     cheapest_decided = (over_budget, in_budget)

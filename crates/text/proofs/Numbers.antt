@@ -6,7 +6,8 @@ use native.Mathlib.Nat.{pow-le-pow_right}
 use borrow.Author.Tests.{lt-leb}
 use Rattle.rules.specs.Lists.{all}
 use Rattle.rules.specs.TableText.{digit_zero, is_digit, is_number, leading_zero, most_digits, value_from}
-use Rattle.text.specs.declared.DigitRun.{DigitRun}
+use Rattle.std.specs.Prelude.{Option, Some, None}
+use Rattle.text.specs.declared.Run.{Run}
 use Rattle.text.specs.Fields.{RunRead, front, most_from}
 
 -- a byte from `0` to `9` is a digit, and any other is none
@@ -67,7 +68,7 @@ begun_small s i v b h =
 
 -- a byte that is no digit ends them
 pub begun_ended : (s : List ℕ) (end i v : ℕ) → Begun s i v → i < length s → i < end → is_digit (get_or s i 0) ≡ false
-    → RunRead (ltb (length (front s)) end) s (DigitRun.Ended i v (get_or s i 0))
+    → RunRead (ltb (length (front s)) end) s (Some (record { count = i; value = v; end = get_or s i 0 }))
 unfolding value_from
 begun_ended s end i v b inside early other =
     let none = front_stops s i inside other in
@@ -78,7 +79,7 @@ begun_ended s end i v b inside early other =
       rw (lt-ltb i (length s) inside) (eq-eqb (get_or s i 0) (get_or s i 0) refl),
     )
 
-pub begun_unended : (s : List ℕ) (end v : ℕ) → Begun s end v → RunRead (ltb (length (front s)) end) s DigitRun.Unended
+pub begun_unended : (s : List ℕ) (end v : ℕ) → Begun s end v → RunRead (ltb (length (front s)) end) s None
 begun_unended s end v b = λ e. rw (le-ltb (length (front s)) end (omega (arith, b.counted)))
 
 -- Digits that are read as far as one byte behind so many are read if they are not more than these,
@@ -94,11 +95,11 @@ outside_by_tests : (t u v : Bool) → (t && (t && v)) ≡ false → (u && (t && 
 outside_by_tests true u v h = rw h (and-false u)
 outside_by_tests false u v h = and-false u
 
-pub whole_read : (s : List ℕ) (most : ℕ) (r : DigitRun) → length s ≤ most → RunRead (ltb (length (front s)) (length s)) s r
+pub whole_read : (s : List ℕ) (most : ℕ) (r : Option Run) → length s ≤ most → RunRead (ltb (length (front s)) (length s)) s r
     → RunRead (leb (length (front s)) most) s r
-whole_read s most (DigitRun.Ended count value behind) h read =
+whole_read s most (Some run) h read =
     (le-leb (length (front s)) most (omega (arith, ltb-true (length (front s)) (length s) read.0)), read.1, read.2, read.3)
-whole_read s most DigitRun.Unended h none = λ end.
+whole_read s most None h none = λ end.
     outside_by_tests (ltb (length (front s)) (length s)) (leb (length (front s)) most) (eqb (get_or s (length (front s)) 0) end)
     (none end)
 

@@ -3,59 +3,52 @@
 -- nor has one whose row is refused. Assumes nothing.
 use Rattle.std.proofs.Common.{◌≡◌, ℕ, ◌+◌, ◌≤◌, Bool, true, false, cond, ◌&&◌, List, [], ◌∷◌, ◌++◌, length, get_or, drop, sym, refl, ap, ◌∙◌, add-one, arith, drop-cons, drop-drop, eq-eqb}
 use mathlib.Core.Option.{Option, none, some}
-use Rattle.rules.specs.Answers.{good}
+use Rattle.rules.specs.Answers.{good, refuses}
 use Rattle.rules.specs.TableText.{Record, field_count, is_letter, letter_record, line_feed, nth, record_of, tab, with_numbers}
 use Rattle.rules.specs.Refusals.{bad, item_shaped, one}
-use Rattle.rules.specs.declared.Field.{Field}
+use Rattle.std.specs.Prelude.{Result, Ok, Err}
 use Rattle.rules.specs.declared.Refusal.{Refusal}
+use Rattle.rules.specs.declared.Refused.{Refused}
 use Rattle.grammar.specs.FirstLine.{first_item, rest_of}
 use Rattle.laws.proofs.Choices.{nothing_there}
 use Rattle.grammar.proofs.Letters.{no_record_no_fields, numbers_behind_unread}
 use Rattle.grammar.proofs.LineNumbers.{count_decides, exactly, exactly_length, numbers_from, some_field}
 use Rattle.grammar.proofs.Lines.{letter_first, letter_rest, no_letter_first, other_byte_first}
 use Rattle.text.specs.Fields.{FieldsTold, behind_byte, is_good, letter_at, line_behind, refused_field, row_at, stands_at, taken_says}
-use Rattle.text.specs.Lines.{LineRead, is_refused, item_of, parsed_of, parsed_with, refused_line, refused_line_or}
+use Rattle.text.specs.Lines.{LineRead, item_of, parsed_of, parsed_with}
 use Rattle.text.specs.declared.Cursor.{Cursor}
 use Rattle.text.specs.declared.FieldTaken.{FieldTaken}
+use Rattle.text.specs.declared.Parsed.{Parsed}
 use Rattle.text.proofs.Told.{refused-field}
 use Rattle.text.proofs.Rows.{RowRead, row_read, stands, stands_begins}
 
--- What was parsed of a record is that record, and no refusal.
-parsed_record : (line : ℕ) (r : Record)
-    → (item_of (parsed_of r) ≡ one r) × (refused_line_or line (parsed_of r) ≡ line) × (is_refused (parsed_of r) ≡ false)
-unfolding item_of refused_line_or is_refused
-parsed_record line (Record.T clock budget) = (refl, refl, refl)
-parsed_record line (Record.F f) = (refl, refl, refl)
-parsed_record line (Record.J j) = (refl, refl, refl)
-parsed_record line (Record.H h) = (refl, refl, refl)
-
-never : {A : Type 0} → true ≡ false → A
-never e = let z : ◌≡◌ {A = ℕ} 0 1 = cc in absurd (omega arith)
+-- What was parsed of a record is that record.
+parsed_record : (r : Record) → item_of (parsed_of r) ≡ one r
+unfolding item_of
+parsed_record (Record.T clock budget) = refl
+parsed_record (Record.F f) = refl
+parsed_record (Record.J j) = refl
+parsed_record (Record.H h) = refl
 
 module _ (text : List ℕ) (place : Cursor) where
-  refused_read : first_item (drop place.at text) ≡ bad Refusal.Shape → LineRead text place (refused_line place)
-  unfolding item_of refused_line_or is_refused
-  refused_read h = record {
-    item = sym h;
-    line = refl;
-    stays = λ e. refl;
-    within = λ e. never e;
-    rest = λ e. never e;
-    next_line = λ e. never e;
-  }
+  refused_read : first_item (drop place.at text) ≡ bad Refusal.Shape → LineRead text place (refuses Refusal.Shape place.line)
+  refused_read h = record { item = sym h; line = refl }
 
   record_read : (r : Record) (next : Cursor) → first_item (drop place.at text) ≡ one r
       → rest_of (drop place.at text) ≡ drop next.at text → next.at ≤ length text
       → next.line ≡ line_behind line_feed place.line
-      → LineRead text place (record { parsed = parsed_of r; next = next })
+      → LineRead text place (Ok (record { parsed = parsed_of r; next = next }))
   record_read r next h rest within line = record {
-    item = (parsed_record place.line r).0 ∙ sym h;
-    line = (parsed_record place.line r).1;
-    stays = λ e. never (sym e ∙ (parsed_record place.line r).2);
-    within = λ e. within;
-    rest = λ e. sym rest;
-    next_line = λ e. line;
+    item = parsed_record r ∙ sym h;
+    within = within;
+    rest = sym rest;
+    next_line = line;
   }
+
+-- the line of what its letter and numbers made
+abbrev pub LineMade : List ℕ → Cursor → Cursor → Result Parsed Refused → Type 0
+LineMade text place next (Ok parsed) = LineRead text place (Ok (record { parsed = parsed; next = next }))
+LineMade text place next (Err r) = LineRead text place (Err r)
 
 -- What the letter says of the line, by whether it is one: what stands there, or that the line has no shape.
 abbrev Lettered : Bool → List ℕ → Cursor → FieldsTold → Type 0
@@ -95,13 +88,13 @@ told_lettered : (text : List ℕ) (place : Cursor) (told : FieldsTold) → told 
 told_lettered text place told e = rw e (letter_read text place)
 
 module _ (text : List ℕ) (place : Cursor) (taken : FieldTaken) (e : taken_says taken ≡ letter_at text place) where
-  pub no_letter_read : (why : Refusal) (line : ℕ) → taken.field ≡ Field.Refused why line → LineRead text place (refused_line place)
-  no_letter_read why line f =
-      refused_read text place (rw (refused-field taken (taken_says taken) why line refl f) at (told_lettered text place (taken_says taken) e))
+  pub no_letter_read : (r : Refused) → taken.field ≡ Err r → LineRead text place (refuses Refusal.Shape place.line)
+  no_letter_read r f =
+      refused_read text place (rw (refused-field taken (taken_says taken) r refl f) at (told_lettered text place (taken_says taken) e))
 
   -- the line of a letter and its numbers
-  module _ (letter : ℕ) (f : taken.field ≡ Field.Number letter) where
-    begun : Lettered true text place (taken_says (record { field = Field.Number letter; next = taken.next }))
+  module _ (letter : ℕ) (f : taken.field ≡ Ok letter) where
+    begun : Lettered true text place (taken_says (record { field = Ok letter; next = taken.next }))
     begun = rw f at (told_lettered text place (taken_says taken) e)
 
     abbrev numbers : Option (List ℕ)
@@ -117,7 +110,7 @@ module _ (text : List ℕ) (place : Cursor) (taken : FieldTaken) (e : taken_says
     row_read_here : RowRead (is_good row) (field_count letter) text taken.next row
     row_read_here = row_read (field_count letter) text taken.next
 
-    pub no_row_read : is_good row ≡ false → LineRead text place (refused_line place)
+    pub no_row_read : is_good row ≡ false → LineRead text place (refuses Refusal.Shape place.line)
     unfolding with_numbers item_shaped
     no_row_read g =
         let none_there : exactly (field_count letter) numbers ≡ none = rw g at row_read_here in
@@ -125,7 +118,7 @@ module _ (text : List ℕ) (place : Cursor) (taken : FieldTaken) (e : taken_says
 
     made : (ns : List ℕ) (next : Cursor) (o : Option Record) → letter_record letter ns ≡ o
         → RowRead true (field_count letter) text taken.next (record { says = good ns; next = next })
-        → LineRead text place (record { parsed = parsed_with place.line o; next = next })
+        → LineMade text place next (parsed_with place.line o)
     unfolding with_numbers record_of item_shaped
     made ns next none m r =
         let no_field = no_record_no_fields letter ns m in
@@ -141,7 +134,7 @@ module _ (text : List ℕ) (place : Cursor) (taken : FieldTaken) (e : taken_says
 
     -- and of numbers that stand behind the row's own nothing is made
     pub row_made_read : (ns more : List ℕ) (next : Cursor) → record { says = good ns; next = next } ≡ row
-        → LineRead text place (record { parsed = parsed_with place.line (letter_record letter (ns ++ more)); next = next })
+        → LineMade text place next (parsed_with place.line (letter_record letter (ns ++ more)))
     row_made_read ns more next e =
         let r : RowRead true (field_count letter) text taken.next (record { says = good ns; next = next }) =
         rw (← e) at row_read_here in

@@ -1,13 +1,13 @@
 -- Digits that are read at a place, with the byte that ends them, say what a number is there, whatever byte is to end it.
 -- Assumes nothing.
-use Rattle.std.proofs.Common.{◌≡◌, ℕ, ◌+◌, true, false, ◌&&◌, eqb, ltb, List, [], ◌∷◌, length, get_or, drop, sym, ap, ◌∙◌, drop-drop, eq-eqb, ne_eqb, eqb-true}
-use Rattle.rules.specs.Answers.{good}
+use Rattle.std.proofs.Common.{◌≡◌, ℕ, ◌+◌, true, false, ◌&&◌, eqb, ltb, List, [], length, get_or, drop, sym, ap, ◌∙◌, drop-drop, eqb-true}
 use Rattle.rules.specs.TableText.{is_number}
 use Rattle.grammar.proofs.LineNumbers.{begins}
 use Rattle.laws.proofs.Tests.{both_true}
-use Rattle.text.specs.Fields.{NumberRead, RunRead, behind_byte, front, number_at, refused_field, run_says, stands_at}
+use Rattle.text.specs.Fields.{NumberRead, RunRead, front, number_at, run_says, stands_at}
 use Rattle.text.specs.declared.Cursor.{Cursor}
-use Rattle.text.specs.declared.DigitRun.{DigitRun}
+use Rattle.std.specs.Prelude.{Option, Some, None}
+use Rattle.text.specs.declared.Run.{Run}
 use Rattle.text.proofs.Rows.{stands, stands_begins}
 
 -- a byte at a place of the rest of a text
@@ -22,7 +22,7 @@ stands_alone text at b end h =
     rw p.0 (ap (λ c. eqb c end) (eqb-true (get_or text at 0) b p.1))
 
 -- where no digit stands there is no number
-pub nothing_read : (text : List ℕ) → front text ≡ [] → RunRead (is_number (front text)) text DigitRun.Unended
+pub nothing_read : (text : List ℕ) → front text ≡ [] → RunRead (is_number (front text)) text None
 unfolding is_number
 nothing_read text none = λ end. rw none
 
@@ -30,35 +30,22 @@ module _ (text : List ℕ) (place : Cursor) where
   abbrev rest : List ℕ
   rest = drop place.at text
 
-  says : (r : DigitRun) → RunRead (is_number (front rest)) rest r → (end : ℕ) → run_says place end r ≡ number_at text place end
+  says : (r : Option Run) → RunRead (is_number (front rest)) rest r → (end : ℕ) → run_says place end r ≡ number_at text place end
   unfolding number_at
-  says (DigitRun.Ended count value behind) read end =
-      let there = sym (stands_dropped text place.at count behind) ∙ read.3 in
-      let test : stands_at text (place.at + length (front rest)) end ≡ eqb behind end =
-      ap (λ n. stands_at text (place.at + n) end) (sym read.1) ∙ stands_alone text (place.at + count) behind end there in
+  says (Some run) read end =
+      let there = sym (stands_dropped text place.at run.count run.end) ∙ read.3 in
+      let test : stands_at text (place.at + length (front rest)) end ≡ eqb run.end end =
+      ap (λ n. stands_at text (place.at + n) end) (sym read.1) ∙ stands_alone text (place.at + run.count) run.end end there in
       rw (read.0, test, read.1, read.2)
-  says DigitRun.Unended read end =
+  says None read end =
       let test : (is_number (front rest) && stands_at text (place.at + length (front rest)) end) ≡ false =
       rw (stands_dropped text place.at (length (front rest)) end) at (read end) in
       rw test
 
-  pub number_read : (r : DigitRun) → RunRead (is_number (front rest)) rest r → NumberRead text place r
+  pub number_read : (r : Option Run) → RunRead (is_number (front rest)) rest r → NumberRead text place r
   number_read r read = record {
     says = says r read;
-    within = λ count value behind e.
-        let ended : RunRead (is_number (front rest)) rest (DigitRun.Ended count value behind) = rw e at read in
-        (stands text (place.at + count) behind (sym (stands_dropped text place.at count behind) ∙ ended.3)).0;
+    within = λ run e.
+        let ended : RunRead (is_number (front rest)) rest (Some run) = rw e at read in
+        (stands text (place.at + run.count) run.end (sym (stands_dropped text place.at run.count run.end) ∙ ended.3)).0;
   }
-
--- the number that stands at a place, by the digits that are read there: it is ended by the byte behind them, and by no other
-module _ (text : List ℕ) (place : Cursor) (r : DigitRun) (read : NumberRead text place r) (end : ℕ) where
-  pub number_unended : r ≡ DigitRun.Unended → number_at text place end ≡ refused_field place
-  number_unended e = sym (read.says end) ∙ ap (run_says place end) e
-
-  module _ (count value behind : ℕ) (e : r ≡ DigitRun.Ended count value behind) where
-    pub number_ended : behind ≡ end
-        → number_at text place end ≡ record { says = good (value ∷ []); next = behind_byte end (place.at + count) place }
-    number_ended f = sym (read.says end) ∙ (ap (run_says place end) e ∙ rw (eq-eqb behind end f))
-
-    pub number_not_ended : (behind ≡ end → ⊥) → number_at text place end ≡ refused_field place
-    number_not_ended f = sym (read.says end) ∙ (ap (run_says place end) e ∙ rw (ne_eqb behind end f))

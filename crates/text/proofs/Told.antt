@@ -1,27 +1,26 @@
 -- What is told of fields and rows that were taken: a refusal has a number that is not 0; and a row is told by the numbers that
 -- were taken so far and what is told of those behind them, field by field. Assumes nothing.
-use Rattle.std.proofs.Common.{◌≡◌, ℕ, zero, suc, ◌+◌, Bool, true, false, cond, ◌&&◌, List, [], ◌∷◌, ◌++◌, length, drop, sym, refl, ap, ◌∙◌, append_assoc, ne_eqb}
+use Rattle.std.proofs.Common.{◌≡◌, ℕ, zero, suc, ◌+◌, ◌-◌, arith, Bool, true, false, cond, ◌&&◌, List, [], ◌∷◌, ◌++◌, length, drop, sym, refl, ap, ◌∙◌, append_assoc, ne_eqb}
+use Rattle.std.specs.Prelude.{Result, Ok, Err}
 use Rattle.laws.proofs.Unique.{refusal_not_0}
 use Rattle.rules.specs.Answers.{field_says, good, number_of}
 use Rattle.rules.specs.TableText.{is_number, line_feed, tab, value_from}
-use Rattle.rules.specs.declared.Field.{Field}
-use Rattle.rules.specs.declared.Refusal.{Refusal}
+use Rattle.rules.specs.declared.Refused.{Refused}
 use Rattle.text.specs.Fields.{FieldsTold, behind_byte, both_told, front, is_good, number_at, refused_field, row_at, row_says, stands_at, taken_says}
 use Rattle.text.specs.declared.Cursor.{Cursor}
-use Rattle.text.specs.declared.RowTaken.{RowTaken}
 use Rattle.text.specs.declared.FieldTaken.{FieldTaken}
 
-pub refused-field : (taken : FieldTaken) (told : FieldsTold) (why : Refusal) (line : ℕ) → taken_says taken ≡ told
-    → taken.field ≡ Field.Refused why line → is_good told ≡ false
-refused-field taken told why line e f = rw (← e) (rw f (ne_eqb (number_of why) 0 (refusal_not_0 why)))
+pub refused-field : (taken : FieldTaken) (told : FieldsTold) (r : Refused) → taken_says taken ≡ told
+    → taken.field ≡ Err r → is_good told ≡ false
+refused-field taken told r e f = rw (← e) (rw f (ne_eqb (number_of r.why) 0 (refusal_not_0 r.why)))
 
-pub number_field : (taken : FieldTaken) (told : FieldsTold) (n : ℕ) → taken_says taken ≡ told → taken.field ≡ Field.Number n
+pub number_field : (taken : FieldTaken) (told : FieldsTold) (n : ℕ) → taken_says taken ≡ told → taken.field ≡ Ok n
     → told ≡ record { says = good (n ∷ []); next = taken.next }
 number_field taken told n e f = sym e ∙ ap (λ field. record { says = field_says field; next = taken.next }) f
 
-pub refused_row : (place : Cursor) (numbers : List ℕ) (row : RowTaken) (told : FieldsTold) (why : Refusal) (line : ℕ)
-    → row_says place numbers row ≡ told → row ≡ RowTaken.Refused why line → is_good told ≡ false
-refused_row place numbers row told why line e f = rw (← e) (rw f (ne_eqb (number_of why) 0 (refusal_not_0 why)))
+pub refused_row : (place : Cursor) (numbers : List ℕ) (row : Result Cursor Refused) (told : FieldsTold) (r : Refused)
+    → row_says place numbers row ≡ told → row ≡ Err r → is_good told ≡ false
+refused_row place numbers row told r e f = rw (← e) (rw f (ne_eqb (number_of r.why) 0 (refusal_not_0 r.why)))
 
 -- The row that begins at a place with these numbers, and goes on with what is told of the others.
 abbrev pub row_with : Cursor → List ℕ → FieldsTold → FieldsTold
@@ -57,42 +56,33 @@ abbrev pub end_before : ℕ → ℕ
 end_before zero = line_feed
 end_before (suc more) = tab
 
-pub other-end : (left behind : ℕ) → (behind ≡ tab → ⊥) → (behind ≡ line_feed → ⊥) → behind ≡ end_before left → ⊥
-other-end zero behind e f = f
-other-end (suc more) behind e f = e
+-- What is told of a row by its numbers so far and the fields that are left: where none is, it is these numbers.
+abbrev pub so_far : Cursor → List ℕ → ℕ → List ℕ → Cursor → FieldsTold
+so_far start numbers zero text place = record { says = good numbers; next = place }
+so_far start numbers (suc left) text place = row_with start numbers (row_at (suc left) text place)
+
+-- the row from its first field on
+pub none_so_far : (count : ℕ) (text : List ℕ) (place : Cursor) → (count ≡ 0 → ⊥)
+    → row_at count text place ≡ so_far place [] (count - 0) text place
+none_so_far zero text place h = absurd (h refl)
+none_so_far (suc left) text place h =
+    let all : suc left - 0 ≡ suc left = omega arith in
+    rw all (nothing_taken (suc left) text place)
 
 module _ (start : Cursor) (numbers text : List ℕ) (place : Cursor) where
-  -- where no field is left there is no row
-  pub none_left : refused_field start ≡ row_with start numbers (row_at 0 text place)
-  unfolding row_at
-  none_left = refl
-
   -- where the field that is to stand here does not, the row is refused
   pub no_field : (left : ℕ) → is_good (number_at text place (end_before left)) ≡ false
-      → refused_field start ≡ row_with start numbers (row_at (suc left) text place)
+      → refused_field start ≡ so_far start numbers (suc left) text place
   unfolding row_at
   no_field zero e = rw e
   no_field (suc more) e = rw e
 
-  module _ (n : ℕ) (next : Cursor) where
-    -- a field ended by a tab is one more number of the row
-    pub one_more : (more : ℕ) → number_at text place tab ≡ record { says = good (n ∷ []); next = next }
-        → row_with start numbers (row_at (suc (suc more)) text place) ≡ row_with start (numbers ++ n ∷ []) (row_at (suc more) text next)
-    unfolding row_at
-    one_more more e =
-        let others = row_at (suc more) text next in
-        rw e (onto_by_test (is_good others) start place others.next numbers others.says.values n)
-
-    -- and if it should be the last there is none left
-    pub goes_on : (left : ℕ) → number_at text place tab ≡ record { says = good (n ∷ []); next = next }
-        → is_good (number_at text place line_feed) ≡ false
-        → row_with start numbers (row_at (suc left) text place) ≡ row_with start (numbers ++ n ∷ []) (row_at left text next)
-    unfolding row_at
-    goes_on zero e f = sym (no_field zero f)
-    goes_on (suc more) e f = one_more more e
-
-    -- a field ended by the line feed is the last
-    pub last_one : number_at text place line_feed ≡ record { says = good (n ∷ []); next = next }
-        → ◌≡◌ {A = FieldsTold} (record { says = good (numbers ++ n ∷ []); next = next }) (row_with start numbers (row_at 1 text place))
-    unfolding row_at
-    last_one e = rw e
+  -- a field that stands here is one more number of the row
+  pub one_more : (n : ℕ) (next : Cursor) (left : ℕ)
+      → number_at text place (end_before left) ≡ record { says = good (n ∷ []); next = next }
+      → so_far start numbers (suc left) text place ≡ so_far start (numbers ++ n ∷ []) left text next
+  unfolding row_at
+  one_more n next zero e = rw e
+  one_more n next (suc more) e =
+      let others = row_at (suc more) text next in
+      rw e (onto_by_test (is_good others) start place others.next numbers others.says.values n)

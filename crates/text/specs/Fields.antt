@@ -1,12 +1,12 @@
 -- Document 01, "The table text": "While the text is read, a field is either a number or the refusal of its line, and the
 -- reading place moves on with each field taken."
-use Rattle.std.specs.Prelude.{◌≡◌, ℕ, zero, suc, ◌+◌, ◌<◌, Bool, true, false, cond, ◌&&◌, List, [], ◌∷◌, ◌++◌, length, drop, ◌==◌, nat_lt, slice_index}
+use Rattle.std.specs.Prelude.{Option, Some, None, Result, Ok, Err, ◌≡◌, ℕ, zero, suc, ◌+◌, ◌<◌, ◌≤◌, Bool, true, false, cond, ◌&&◌, List, [], ◌∷◌, ◌++◌, length, drop, ◌==◌, nat_lt, slice_index}
 use Rattle.rules.specs.Answers.{Answer, field_says, good, refused}
-use Rattle.rules.specs.TableText.{is_digit, is_letter, is_number, line_feed, most_digits, tab, value_from}
+use Rattle.rules.specs.TableText.{digit_zero, is_digit, is_letter, is_number, line_feed, most_digits, tab, value_from}
 use Rattle.rules.specs.declared.Refusal.{Refusal}
+use Rattle.rules.specs.declared.Refused.{Refused}
 use Rattle.text.specs.declared.Cursor.{Cursor}
-use Rattle.text.specs.declared.RowTaken.{RowTaken}
-use Rattle.text.specs.declared.DigitRun.{DigitRun}
+use Rattle.text.specs.declared.Run.{Run}
 use Rattle.text.specs.declared.FieldTaken.{FieldTaken}
 
 -- the digits that stand at the front of a text
@@ -22,15 +22,20 @@ stands_at text at b = nat_lt at (length text) && slice_index text at == b
 unfoldable pub most_from : ℕ → ℕ
 most_from first = cond (first == 0) 1 most_digits
 
+-- a byte read as a digit, or as none
+abbrev pub DigitRead : ℕ → Option ℕ → Type 0
+DigitRead byte (Some digit) = (digit ≤ 9) × (byte ≡ digit_zero + digit)
+DigitRead byte None = is_digit byte ≡ false
+
 -- What reading the digits at the front of a text promises, where a test says whether they are as wanted: if a byte ends them,
 -- they are, with their count and the number that they stand for; if none does, they are not, or the text ends behind them.
-abbrev pub RunRead : Bool → List ℕ → DigitRun → Type 0
-RunRead wanted text (DigitRun.Ended count value behind) =
+abbrev pub RunRead : Bool → List ℕ → Option Run → Type 0
+RunRead wanted text (Some digits) =
     (wanted ≡ true)
-    × (count ≡ length (front text))
-    × (value ≡ value_from 0 (front text))
-    × (stands_at text count behind ≡ true)
-RunRead wanted text DigitRun.Unended = (end : ℕ) → (wanted && stands_at text (length (front text)) end) ≡ false
+    × (digits.count ≡ length (front text))
+    × (digits.value ≡ value_from 0 (front text))
+    × (stands_at text digits.count digits.end ≡ true)
+RunRead wanted text None = (end : ℕ) → (wanted && stands_at text (length (front text)) end) ≡ false
 
 -- What is told of fields that stand at a place: their values, or number and line of the refusal; and the place behind them.
 pub record FieldsTold : Type 0 where
@@ -69,17 +74,17 @@ unfoldable pub number_at : List ℕ → Cursor → ℕ → FieldsTold
 number_at text place end = number_with text place end (front (drop place.at text))
 
 -- digits that are read at a place, if the byte `end` is to stand behind them
-abbrev pub run_says : Cursor → ℕ → DigitRun → FieldsTold
-run_says place end (DigitRun.Ended count value behind) =
-    cond (behind == end)
-    (record { says = good (value ∷ []); next = behind_byte end (place.at + count) place })
+abbrev pub run_says : Cursor → ℕ → Option Run → FieldsTold
+run_says place end (Some digits) =
+    cond (digits.end == end)
+    (record { says = good (digits.value ∷ []); next = behind_byte end (place.at + digits.count) place })
     (refused_field place)
-run_says place end DigitRun.Unended = refused_field place
+run_says place end None = refused_field place
 
 -- What reading the digits at a place promises: by the byte behind them, all that is to be told of a number there.
-pub record NumberRead (text : List ℕ) (place : Cursor) (r : DigitRun) : Type 0 where
+pub record NumberRead (text : List ℕ) (place : Cursor) (r : Option Run) : Type 0 where
   pub says : (end : ℕ) → run_says place end r ≡ number_at text place end
-  pub within : (count value behind : ℕ) → r ≡ DigitRun.Ended count value behind → place.at + count < length text
+  pub within : (digits : Run) → r ≡ Some digits → place.at + digits.count < length text
 
 -- the letter of a record that stands at a place alone before a tab
 unfoldable pub letter_at : List ℕ → Cursor → FieldsTold
@@ -89,9 +94,9 @@ letter_at text place =
     (refused_field place)
 
 -- a row that is taken from a place, with its numbers, in document 01's numbers; a refused one leaves the place where it was
-abbrev pub row_says : Cursor → List ℕ → RowTaken → FieldsTold
-row_says place numbers (RowTaken.Behind next) = record { says = good numbers; next = next }
-row_says place numbers (RowTaken.Refused why line) = record { says = refused why line []; next = place }
+abbrev pub row_says : Cursor → List ℕ → Result Cursor Refused → FieldsTold
+row_says place numbers (Ok next) = record { says = good numbers; next = next }
+row_says place numbers (Err r) = record { says = refused r.why r.line []; next = place }
 
 -- number 0: nothing is refused
 abbrev pub is_good : FieldsTold → Bool

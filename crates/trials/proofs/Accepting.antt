@@ -3,7 +3,7 @@
 -- Assumes nothing.
 use mathlib.Core.Bool.{true, false}
 use mathlib.Core.List.{List, [], ◌∷◌, ◌++◌}
-use mathlib.Core.Path.{◌≡◌, refl, sym, ap, ◌∙◌}
+use mathlib.Core.Path.{◌≡◌, sym, ap, ◌∙◌}
 use Prim.Native.Nat.{ℕ, zero, suc, ◌+◌, ◌-◌, ◌≤◌, ◌<◌}
 use native.Mathlib.Omega.{arith}
 use borrow.Author.Tests.{eqb-true}
@@ -150,7 +150,9 @@ module _ (count : ℕ) (places keys changed fresh : List ℕ) (changes from : �
             (below_without (length js) (index_of c.place ps) ps (on.of_jobs js of ofc)) (ofc i (omega (arith, on.left_few))));
       }
 
-  module _ (places₁ keys₁ : List ℕ) (behind entries i : ℕ) (on : Accepting places₁ keys₁ behind entries (suc i)) where
+module _ {count : ℕ} {places keys changed fresh : List ℕ} {changes from : ℕ} where
+  module _ {places₁ keys₁ : List ℕ} {behind entries i : ℕ}
+      (on : Accepting count places keys changed fresh changes from places₁ keys₁ behind entries (suc i)) where
     abbrev ps : List ℕ
     ps = take entries places₁
 
@@ -189,9 +191,9 @@ module _ (count : ℕ) (places keys changed fresh : List ℕ) (changes from : �
         let less = room_for_one_more change.place (without_at (index_of change.place ps) ps) keys₁ apart in
         omega (arith, ap length (nothing_out change.place ps none), length_planned entries places₁ keys₁ on.stand, on.stand.places_length)
 
-    module _ (places₂ keys₂ : List ℕ) (r : ℕ) where
+    module _ {places₂ keys₂ : List ℕ} {r : ℕ} where
       pub moved_there : MovedUp behind entries change.place change.key places₁ keys₁ places₂ keys₂ r
-          → Accepting places₂ keys₂ (r + 1) entries i
+          → Accepting count places keys changed fresh changes from places₂ keys₂ (r + 1) entries i
       moved_there moved =
           let part_r : drop r ps ≡ part r entries places₁ = dropped_front r entries places₁ in
           let short : r ≤ entries = moved.index.not_behind in
@@ -200,7 +202,7 @@ module _ (count : ℕ) (places keys changed fresh : List ℕ) (changes from : �
           let long : length (part r entries places₁) ≡ entries - r =
           length_part r entries places₁ short insertable.inside in
           let some = index_inside change.place (part r entries places₁) moved.stands in
-          one_more_made places₁ keys₁ behind entries i on places₂ keys₂ r entries at
+          one_more_made count places keys changed fresh changes from places₁ keys₁ behind entries i on places₂ keys₂ r entries at
           (moved.front ∙ made-up r part_r front_r at)
           moved.key_stored (moved.whole ∙ on.stand.places_length) (omega arith) on.stand.few (omega arith)
         where
@@ -216,19 +218,20 @@ module _ (count : ℕ) (places keys changed fresh : List ℕ) (changes from : �
 
       pub inserted_there : not_planned ≤ get_or keys₁ change.place 0
           → Inserted behind entries change.place change.key places₁ keys₁ places₂ keys₂ r
-          → Accepting places₂ keys₂ (r + 1) (entries + 1) i
+          → Accepting count places keys changed fresh changes from places₂ keys₂ (r + 1) (entries + 1) i
       inserted_there l inserted =
           let none = not_among entries places₁ keys₁ on.stand change.place place_below l in
-          one_more_made places₁ keys₁ behind entries i on places₂ keys₂ r (entries + 1)
+          one_more_made count places keys changed fresh changes from places₁ keys₁ behind entries i on places₂ keys₂ r (entries + 1)
           (inserted.index.first ∙ rw (sym part_behind))
           (inserted.fronted.front ∙ ap (with_at r change.place) (sym (nothing_out change.place ps none)))
           inserted.key_stored (inserted.fronted.whole ∙ on.stand.places_length) (omega arith)
           (omega (arith, room l, on.stand.places_length)) (omega (arith, inserted.index.not_behind))
 
   -- all changes are made
-  pub all-made : (places' keys' : List ℕ) (behind entries i : ℕ) → i ≡ 0 → Accepting places' keys' behind entries i
+  pub all-made : {places' keys' : List ℕ} {behind entries i : ℕ} → i ≡ 0
+      → Accepting count places keys changed fresh changes from places' keys' behind entries i
       → Accepted count places keys changed fresh changes from places' keys' entries
-  all-made places' keys' behind entries i none on = record {
+  all-made {places'} {keys'} {behind} {entries} none on = record {
     stand = on.stand;
     no_fewer = on.no_fewer;
     merge = λ js rising of ofc. sym (on.merge js rising of ofc ∙ rw none (finished js));

@@ -4,34 +4,32 @@
 use mathlib.Core.Bool.{Bool, true, false, cond, not}
 use mathlib.Core.List.{List, [], ◌∷◌, ◌++◌, append_assoc}
 use mathlib.Core.Logic.{inl}
-use mathlib.Core.Path.{◌≡◌, refl, sym, ap, ◌∙◌}
+use mathlib.Core.Path.{◌≡◌, sym, ap, ◌∙◌}
 use Prim.Native.Nat.{ℕ, zero, suc, ◌+◌, ◌-◌, ◌*◌, ◌≤◌, ◌<◌}
-use native.Mathlib.Nat.{mul-le-mul_right}
 use native.Mathlib.Omega.{arith}
-use lib.Dec.{eqb, ltb}
+use lib.Dec.{ltb}
 use lib.ListN.{drop, get_or, length, length-drop, take}
-use lib.Seq.{drop-drop, get_or-take, length-take-le, take-add, take-take}
+use lib.Seq.{drop-drop, get_or-take, length-take-le, take-add}
 use Rattle.chains.proofs.Walks.{chain_met, met_are_places}
 use Rattle.chains.specs.Promises.{most_members}
 use Rattle.chains.specs.Waits.{places_from}
 use Rattle.changes.proofs.OfTurns.{chain_apart, each_runs_in, trial_runs}
 use Rattle.changes.specs.Changes.{merged, staying}
 use Rattle.columns.proofs.Entries.{jobs_of_entries}
-use Rattle.columns.specs.Columns.{AllBelow, AtMost, entries_in, entry_at, jobs_at}
+use Rattle.columns.specs.Columns.{AtMost, entries_in, jobs_at}
 use Rattle.columns.specs.declared.Terms.{Terms}
 use Rattle.entries.specs.Places.{not_planned}
 use Rattle.entries.specs.Promises.{JobPlaces}
 use Rattle.judgements.specs.Changes.{Change, WellNoted, entries_of, far_first, most_changes, places_of, timely_entries}
-use Rattle.judgements.specs.Promises.{FateJudged, Judgeable, RunOf, ToGo, at_first, fate_by}
-use Rattle.judgements.specs.declared.Judged.{Judged}
+use Rattle.judgements.specs.Promises.{FateOf, Judgeable, RunOf, ToGo, at_first}
 use Rattle.judgements.specs.declared.Noted.{Noted}
 use Rattle.laws.proofs.Elements.{each_too, map_append}
-use Rattle.laws.proofs.Lookups.{each_both, length_keep}
+use Rattle.laws.proofs.Lookups.{length_keep}
 use Rattle.laws.proofs.Numbered.{same_place}
 use Rattle.laws.proofs.Pairs.{pairs_too}
-use Rattle.laws.specs.Pairs.{Distinct, Pairwise, no_pair, ◌then◌}
-use Rattle.rules.specs.Lists.{Each, Rising, none_left, total, ◌and◌}
-use Rattle.rules.specs.Plan.{Entry, awaited, cycles_of, ends_late, fate_budget, fate_planned, fate_time, in_time, jobs_of, run_order, same, too_dear, top_of, trial, turn_of, waits_left}
+use Rattle.laws.specs.Pairs.{Distinct, Pairwise, ◌then◌}
+use Rattle.rules.specs.Lists.{Each, Rising, total, ◌and◌}
+use Rattle.rules.specs.Plan.{Entry, awaited, cycles_of, ends_late, fate_budget, fate_planned, fate_time, in_time, jobs_of, same, too_dear, top_of, trial, turn_of, waits_left}
 use Rattle.rules.specs.TableText.{Records, most_cycles, most_jobs, no_job}
 use Rattle.rules.specs.declared.Job.{Job}
 use Rattle.steps.proofs.Deadlines.{in_time_by_deadlines, timely_map}
@@ -43,11 +41,13 @@ use Rattle.trials.proofs.FarFirst.{length_far_first, length_places}
 use Rattle.trials.proofs.Making.{each_below}
 use Rattle.trials.proofs.Once.{each_dropped, length_planned, pairs_dropped}
 use Rattle.trials.proofs.Settling.{far_first_rest, front_apart, front_none_among, noted_rest, places_rest, settled_jobs, still_to_go}
-use Rattle.trials.proofs.Turning.{before, cycles_told, is_of_left, leave_so, not_in_plan, noted_of_jobs, pairs_unmapped, sound, trial_told, turn_now}
-use Rattle.trials.specs.Promises.{Acceptable, EntriesStand, Kept, LeftUntouched, PlanParts, Touchable, TurnColumns, TurnOf, Turnable, Walkable, WalkNoted, is_planned, plan_in, planned_places, without_settled}
+use Rattle.trials.proofs.Turning.{cycles_told, is_of_left, leave_so, not_in_plan, noted_of_jobs, pairs_unmapped, sound, trial_told, turn_now}
+use Rattle.trials.specs.Promises.{EntriesStand, LeftUntouched, Touchable, TurnColumns, TurnOf, Turnable, Walkable, WalkNoted, is_planned, plan_in, planned_places, without_settled}
+use Rattle.trials.specs.declared.Plan.{Plan}
 use Rattle.trials.specs.declared.JobInTurn.{JobInTurn}
 use Rattle.trials.specs.declared.Untouched.{Untouched}
 use Rattle.trials.specs.declared.Walked.{Walked}
+use Rattle.judgements.specs.declared.Kept.{Kept}
 
 pub jobs_parts : (xs ys : List Entry) → jobs_of (xs ++ ys) ≡ jobs_of xs ++ jobs_of ys
 unfolding jobs_of
@@ -65,7 +65,7 @@ few_added keys cycles small (q ∷ qs) =
     one true = omega arith
     one false = small q
 
-module _ (p : PlanParts) (kept : Kept) (changed₀ fresh₀ : List ℕ) (job : JobInTurn) (c : TurnColumns) (terms : Terms)
+module _ {p : Plan} {kept : Kept} {changed₀ fresh₀ : List ℕ} {job : JobInTurn} {c : TurnColumns} {terms : Terms}
     (able : Turnable p kept changed₀ fresh₀ job c terms) where
   abbrev pub stand : EntriesStand p.totals.count p.places p.keys
   stand = able.standing.entries_stand
@@ -117,7 +117,7 @@ module _ (p : PlanParts) (kept : Kept) (changed₀ fresh₀ : List ℕ) (job : J
       cycles_small = able.columns_small.cycles_small;
     }
 
-    module _ (changed fresh : List ℕ) (w : Walked)
+    module _ {changed fresh : List ℕ} {w : Walked}
         (walked : WalkNoted job.place p.keys c.waits c.critical c.cycles changed fresh w) where
       abbrev pub ds : List Change
       ds = far_first w.noted.changes changed fresh
@@ -144,7 +144,7 @@ module _ (p : PlanParts) (kept : Kept) (changed₀ fresh₀ : List ℕ) (job : J
       pub touchable : Touchable ps w.noted
       touchable = record { places = job-places; some = walked.some; few = walked.few; moved_few = moved_few }
 
-      module _ (u : Untouched) (left : LeftUntouched ps p.keys changed fresh w.noted u) where
+      module _ {u : Untouched} (left : LeftUntouched ps p.keys changed fresh w.noted u) where
         abbrev pub from : ℕ
         from = u.below + u.settled
 
@@ -160,15 +160,16 @@ module _ (p : PlanParts) (kept : Kept) (changed₀ fresh₀ : List ℕ) (job : J
         rest_noted : WellNoted (far_first rest.changes changed fresh) p.keys
         rest_noted = rw (sym rest_first) (noted_rest u.settled p.keys walked.well_noted)
 
+        -- what the order of a trial asks for
+        pub rest_few : rest.changes ≤ most_changes
+        rest_few = omega (arith, walked.few)
+
+        pub rest_moved_few : rest.moved ≤ rest.changes
+        rest_moved_few = omega (arith, moved_few, left.settled_few)
+
         pub judgeable : Judgeable ps p.keys kept.ends kept.latests changed fresh rest from all c.cycles c.deadline terms
         judgeable = record {
-          run_through = record {
-            places = job-places;
-            few = omega (arith, walked.few);
-            moved_few = omega (arith, moved_few, left.settled_few);
-            well_noted = rest_noted;
-            cycles_small = able.columns_small.cycles_small;
-          };
+          well_noted = rest_noted;
           ends_true = able.kept_true.ends_true;
           latests_true = able.kept_true.latests_true;
           from_inside = left.inside;
@@ -200,7 +201,7 @@ module _ (p : PlanParts) (kept : Kept) (changed₀ fresh₀ : List ℕ) (job : J
             rw (get_or-take u.below ps i 0 inside) (lower_than_changes i inside))
 
         -- what holds of a table of which plan, place and columns are
-        module _ (t : Records) (of : TurnOf t p job c terms) where
+        module _ {t : Records} (of : TurnOf t p job c terms) where
           abbrev js : List Job
           js = t.jobs
 
@@ -221,7 +222,6 @@ module _ (p : PlanParts) (kept : Kept) (changed₀ fresh₀ : List ℕ) (job : J
             rising = of.valid.jobs_rise;
             cycles-of = of.columns_of.cycles-of;
             due_of = of.columns_of.deadline-of;
-            due_small = able.columns_small.deadline_small;
             of_jobs = of.of_jobs;
             changes_of_jobs = λ i h. of_jobs i (omega arith);
           }
@@ -307,8 +307,8 @@ module _ (p : PlanParts) (kept : Kept) (changed₀ fresh₀ : List ℕ) (job : J
           dear_told = rw (run-order t tried, sym all_told, of.terms_of.budget, of.terms_of.cost)
 
           -- The fate that was judged is the one that the rules give.
-          pub fate-told : (j : Judged) → FateJudged ps p.keys changed fresh rest from all c.cycles c.deadline terms j
-              → j.fate ≡ cond (ends_late t tried) fate_time (cond (too_dear t tried) fate_budget fate_planned)
-          fate-told j judged =
-              judged.fate js due run_of stand.sorted to-go timely_before
+          pub fate-told : (fate : ℕ) → FateOf ps p.keys changed fresh rest from all c.cycles c.deadline terms fate
+              → fate ≡ cond (ends_late t tried) fate_time (cond (too_dear t tried) fate_budget fate_planned)
+          fate-told fate judged =
+              judged js due run_of stand.sorted to-go timely_before
               ∙ sym (rw (late_told, dear_told))

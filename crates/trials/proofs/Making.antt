@@ -1,7 +1,7 @@
 -- One change made: behind the entries of the front, whose keys are not above its own, it goes before the first entry whose key is its
 -- own or more, and where it stood it stands no more. The front grows up to it; the changes that are left are merged with what is
 -- left of the plan, as before. Assumes nothing.
-use mathlib.Core.Bool.{Bool, true, false, ◌||◌}
+use mathlib.Core.Bool.{Bool, false}
 use mathlib.Core.List.{List, [], ◌∷◌, ◌++◌, append_assoc}
 use mathlib.Core.Path.{◌≡◌, refl, sym, ap, ◌∙◌}
 use Prim.Native.Nat.{ℕ, zero, suc, ◌+◌, ◌≤◌, ◌<◌}
@@ -10,25 +10,25 @@ use native.Mathlib.Omega.{arith}
 use borrow.Author.Tests.{eqb-true, leb-false, leb-true}
 use lib.Dec.{eqb, leb}
 use lib.ListN.{drop, get_or, length, length-drop, set, take, take-append-drop}
-use lib.Seq.{drop-drop, length-take-le, take-add, take_at}
+use lib.Seq.{drop-drop, length-take-le, take-add}
 use Rattle.changes.proofs.Merging.{OnceEach, merged_next}
 use Rattle.changes.specs.Changes.{merged, staying}
 use Rattle.columns.specs.Columns.{AllBelow, entries_in, entry_at}
 use Rattle.entries.proofs.Entries.{entries_stay}
 use Rattle.entries.proofs.Found.{removed_at_index}
 use Rattle.entries.proofs.Searches.{first_at_most_length}
-use Rattle.entries.specs.Places.{Sorted, first_where, index_of, not_planned, place_for, with_at, without_at}
-use Rattle.judgements.specs.Changes.{Change, WellNoted, entries_of, places_of}
+use Rattle.entries.specs.Places.{Sorted, first_where, index_of, place_for, with_at, without_at}
+use Rattle.judgements.specs.Changes.{Change, WellNoted, entries_of}
 use Rattle.laws.proofs.Choices.{eqb_swap, neither, split}
 use Rattle.laws.proofs.Elements.{each_append, each_at_place, each_map, each_too, map_append}
 use Rattle.laws.proofs.Lookups.{each_both, each_first, each_rest, none_any}
 use Rattle.laws.proofs.Numbered.{same_place}
 use Rattle.laws.specs.Pairs.{Distinct, Pairwise, among, no_pair, ◌then◌}
 use Rattle.rules.specs.Lists.{Each, Rising, none_left, ◌and◌}
-use Rattle.rules.specs.Plan.{Entry, in_plan, is_of, remove, same}
+use Rattle.rules.specs.Plan.{Entry, in_plan, is_of, remove}
 use Rattle.rules.specs.TableText.{most_jobs, no_job}
 use Rattle.rules.specs.declared.Job.{Job}
-use Rattle.trials.proofs.Once.{Apart, each_dropped, each_taken, each_without, kept, pairs_dropped, stored, taken_out_is_gone}
+use Rattle.trials.proofs.Once.{each_dropped, each_taken, each_without, kept, pairs_dropped, stored, taken_out_is_gone}
 
 -- before the first that passes none does
 before_first : {A : Type 0} (p : A → Bool) (xs : List A) → Each (λ x. p x ≡ false) (take (first_where p xs) xs)

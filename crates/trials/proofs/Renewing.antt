@@ -1,21 +1,20 @@
 -- What is kept of the entries, renewed one by one: an end is that of the entry before it and its own cycles, from the front; a latest
 -- beginning is told by the one behind it, from the back. No place stands twice, so that a store changes one entry's alone. Assumes
 -- nothing.
-use mathlib.Core.Bool.{false}
 use mathlib.Core.List.{List, [], ◌∷◌}
-use mathlib.Core.Path.{◌≡◌, refl, sym, ap, ◌∙◌}
+use mathlib.Core.Path.{◌≡◌, sym, ◌∙◌}
 use Prim.Native.Nat.{ℕ, zero, suc, min, ◌+◌, ◌-◌, ◌*◌, ◌≤◌, ◌<◌}
 use native.Mathlib.Numerals.{add-one}
 use native.Mathlib.Omega.{arith}
 use borrow.Author.Tests.{eq-eqb, eqb-false, eqb-true, ltb-false, ltb-true}
 use lib.Dec.{eqb, ltb}
-use lib.ListN.{drop, get_or, length, set, take}
-use lib.Seq.{drop-cons, get_or-set_other, get_or-set_same, length-take-le}
+use lib.ListN.{drop, get_or, length, length-take, set, take}
+use lib.Seq.{drop-cons, get_or-drop, get_or-set_other, get_or-set_same, get_or-take, length-take-le}
 use Rattle.columns.specs.Columns.{AllBelow, AtMost}
 use Rattle.entries.proofs.Sums.{cycles_at_most}
 use Rattle.entries.specs.Promises.{cycles_at}
 use Rattle.judgements.specs.Promises.{EndsTrue, LatestsTrue, latest_of_places}
-use Rattle.laws.proofs.Choices.{clash, eqb_swap, split}
+use Rattle.laws.proofs.Choices.{clash, split}
 use Rattle.laws.proofs.Pairs.{pairs_at_places}
 use Rattle.laws.specs.Pairs.{Distinct}
 use Rattle.rules.specs.TableText.{most_cycles, most_jobs}
@@ -35,6 +34,15 @@ one_more_taken : (cycles : List ℕ) (i : ℕ) (ps : List ℕ) → i < length ps
 one_more_taken cycles i [] h = absurd (omega arith)
 one_more_taken cycles zero (p ∷ ps) h = omega arith
 one_more_taken cycles (suc i) (p ∷ ps) h = omega (arith, one_more_taken cycles i ps (omega arith))
+
+-- the item at an index of the part from another on
+pub item_behind : (ps : List ℕ) (first i : ℕ) → i < length (take (length ps - first) (drop first ps))
+    → (get_or (take (length ps - first) (drop first ps)) i 0 ≡ get_or ps (first + i) 0) × (first + i < length ps)
+item_behind ps first i h =
+    let inside : i < length ps - first = omega (arith, length-take (length ps - first) (drop first ps)) in (
+      get_or-take (length ps - first) (drop first ps) i 0 inside ∙ get_or-drop first ps i 0,
+      omega arith,
+    )
 
 -- the cycles run by an entry's end
 pub one_more_run : (cycles : List ℕ) (i : ℕ) (ps : List ℕ) → i < length ps

@@ -2,13 +2,13 @@
 -- accepted trial leaves the plan of the rules. What is kept of it was true of the entries before the first change that moves
 -- something, and of those behind all changes: they are the same places as before. Assumes nothing.
 use mathlib.Core.Bool.{Bool, true, false, cond}
-use mathlib.Core.List.{List, [], ◌∷◌, ◌++◌, append_assoc, map}
+use mathlib.Core.List.{List, [], ◌∷◌, ◌++◌, append_assoc}
 use mathlib.Core.Path.{◌≡◌, refl, sym, ap, ◌∙◌}
-use Prim.Native.Nat.{ℕ, zero, suc, ◌+◌, ◌-◌, ◌*◌, ◌≤◌, ◌<◌}
+use Prim.Native.Nat.{ℕ, zero, suc, ◌+◌, ◌-◌, ◌≤◌, ◌<◌}
 use native.Mathlib.Omega.{arith}
 use borrow.Author.Tests.{eq-eqb, eqb-true, le-ltb, lt-ltb, ne_eqb}
-use lib.Dec.{eqb, ltb}
-use lib.ListN.{drop, get_or, length, length-append, length-drop, length-map, take}
+use lib.Dec.{ltb}
+use lib.ListN.{drop, get_or, length, length-append, length-drop, take}
 use lib.Seq.{drop-drop, get_or-drop, get_or-take, length-take-le, take_at, take-take}
 use Rattle.changes.specs.Changes.{merged, staying}
 use Rattle.columns.proofs.Entries.{jobs_of_entries, length_jobs_at}
@@ -18,16 +18,16 @@ use Rattle.entries.proofs.Found.{in_plan_among}
 use Rattle.entries.proofs.Parts.{dropped_front}
 use Rattle.entries.proofs.Sums.{cycles_at_most, cycles_of_jobs}
 use Rattle.entries.specs.Places.{not_planned, part}
-use Rattle.entries.specs.Promises.{JobPlaces, cycles_at}
+use Rattle.entries.specs.Promises.{cycles_at}
 use Rattle.judgements.specs.Changes.{EndsWith, entries_of, far_first, most_changes}
-use Rattle.judgements.specs.Promises.{EndsTrue, FateJudged, LatestsTrue, latest_of_places}
-use Rattle.judgements.specs.declared.Judged.{Judged}
+use Rattle.judgements.specs.Promises.{EndsTrue, JudgedDropped, JudgedPlanned, LatestsTrue}
 use Rattle.laws.proofs.Numbered.{same_place}
-use Rattle.laws.specs.Pairs.{Distinct, among}
 use Rattle.rules.specs.Lists.{Each, Rising, none_left, ◌and◌}
 use Rattle.rules.specs.Plan.{Entry, Outcome, Turn, cycles_of, ends_late, fate_budget, fate_planned, fate_ratio_zero, fate_time, in_plan, jobs_of}
 use Rattle.rules.specs.Plan.{judge, ratio_zero, same, too_dear, trial, turn, turn_of}
-use Rattle.rules.specs.TableText.{Records, most_cycles, most_jobs, no_job}
+use Rattle.rules.specs.TableText.{Records, most_jobs, no_job}
+use Rattle.rules.specs.Answers.{fate_number}
+use Rattle.rules.specs.declared.Fate.{Fate}
 use Rattle.rules.specs.declared.Job.{Job}
 use Rattle.steps.proofs.Jobs.{same_self}
 use Rattle.trials.proofs.Accepting.{each_change_of}
@@ -36,11 +36,13 @@ use Rattle.trials.proofs.Making.{each_below}
 use Rattle.trials.proofs.Once.{each_dropped, each_taken, length_planned}
 use Rattle.trials.proofs.Settling.{front_apart}
 use Rattle.trials.proofs.Turning as turning
-use Rattle.trials.specs.Promises.{Acceptable, Accepted, EntriesStand, Kept, KeptTrue, LeftUntouched, PlanParts, PlanStanding, Renewable}
-use Rattle.trials.specs.Promises.{TurnColumns, TurnOf, TurnTaken, Turnable, WalkNoted, kept_of, plan_in, plan_parts, planned_places}
+use Rattle.trials.specs.Promises.{Acceptable, Accepted, EntriesStand, LeftUntouched, Renewable}
+use Rattle.trials.specs.Promises.{TurnColumns, TurnOf, TurnTaken, Turnable, WalkNoted, plan_in, planned_places}
+use Rattle.trials.specs.declared.Plan.{Plan}
 use Rattle.trials.specs.declared.JobInTurn.{JobInTurn}
 use Rattle.trials.specs.declared.Untouched.{Untouched}
 use Rattle.trials.specs.declared.Walked.{Walked}
+use Rattle.judgements.specs.declared.Kept.{Kept}
 
 -- what a trial leaves, by the tests
 abbrev outcome_by : Bool → Bool → List Entry → List Entry → Outcome
@@ -139,7 +141,7 @@ module _ (cycles : List ℕ) (ps ps' : List ℕ) where
       let inside : from + n < length ps = omega (arith, length-drop to ps', length-drop from ps, ap length e) in
       rw (same_place, same_behind) (was (from + n) (omega arith) inside)
 
-module _ (p : PlanParts) (kept : Kept) (changed₀ fresh₀ : List ℕ) (job : JobInTurn) (c : TurnColumns) (terms : Terms)
+module _ {p : Plan} {kept : Kept} {changed₀ fresh₀ : List ℕ} {job : JobInTurn} {c : TurnColumns} {terms : Terms}
     (able : Turnable p kept changed₀ fresh₀ job c terms) where
   abbrev stand : EntriesStand p.totals.count p.places p.keys
   stand = able.standing.entries_stand
@@ -194,21 +196,21 @@ module _ (p : PlanParts) (kept : Kept) (changed₀ fresh₀ : List ℕ) (job : J
         stays changed₀ fresh₀ able.changed_length able.fresh_length fate_ratio_zero (λ t of.
         gives-nothing t (turn_of t (get_or t.jobs job.place no_job)) (plan_in t.jobs p) (new_told t of) (over_told t of ∙ z))
 
-    module _ (some : job.over ≡ 0 → ⊥) (changed fresh : List ℕ) (w : Walked)
-        (walked : WalkNoted job.place p.keys c.waits c.critical c.cycles changed fresh w) (u : Untouched)
-        (left : LeftUntouched ps p.keys changed fresh w.noted u) (j : Judged)
-        (judged : FateJudged ps p.keys changed fresh (judged-so.rest p kept changed₀ fresh₀ job c terms able new changed fresh w walked u left)
-        (judged-so.from p kept changed₀ fresh₀ job c terms able new changed fresh w walked u left)
-        (judged-so.all p kept changed₀ fresh₀ job c terms able new changed fresh w walked) c.cycles c.deadline terms j) where
+    module _ (some : job.over ≡ 0 → ⊥) {changed fresh : List ℕ} {w : Walked}
+        (walked : WalkNoted job.place p.keys c.waits c.critical c.cycles changed fresh w) {u : Untouched}
+        (left : LeftUntouched ps p.keys changed fresh w.noted u) where
       gives_told : (t : Records) (of : TurnOf t p job c terms)
           → (turn_of t (get_or t.jobs job.place no_job)).ratio.over ≡ 0 → ⊥
       gives_told t of z = some (sym (over_told t of) ∙ z)
 
-      pub trial_is_dropped : (j.fate ≡ fate_planned → ⊥) → TurnTaken p job c terms p kept changed fresh j.fate
-      trial_is_dropped n =
-          stays changed fresh walked.changed_length walked.fresh_length j.fate (λ t of.
-          dropped t (turn_of t (get_or t.jobs job.place no_job)) (plan_in t.jobs p) (new_told t of) (gives_told t of) j.fate
-          (judged-so.fate-told p kept changed₀ fresh₀ job c terms able new changed fresh w walked u left t of j judged) n)
+      pub trial_is_dropped : (why : Fate)
+          → JudgedDropped ps p.keys changed fresh (judged-so.rest able new walked left) (judged-so.from able new walked left)
+          (judged-so.all able new walked) c.cycles c.deadline terms why
+          → TurnTaken p job c terms p kept changed fresh (fate_number why)
+      trial_is_dropped why judged =
+          stays changed fresh walked.changed_length walked.fresh_length (fate_number why) (λ t of.
+          dropped t (turn_of t (get_or t.jobs job.place no_job)) (plan_in t.jobs p) (new_told t of) (gives_told t of) (fate_number why)
+          (judged-so.fate-told able new walked left of (fate_number why) judged.fate) judged.not-planned)
 
       below_inside : u.below ≤ p.totals.count
       below_inside = omega (arith, left.inside, length_planned p.totals.count p.places p.keys stand)
@@ -221,10 +223,12 @@ module _ (p : PlanParts) (kept : Kept) (changed₀ fresh₀ : List ℕ) (job : J
         well_noted = walked.well_noted;
         lower = λ i h.
             rw (sym (get_or-take p.totals.count p.places i 0 (omega (arith, below_inside))))
-            (judged-so.lower_than_changes p kept changed₀ fresh₀ job c terms able new changed fresh w walked u left i h);
+            (judged-so.lower_than_changes able new walked left i h);
       }
 
-      module _ (planned_so : j.fate ≡ fate_planned) (places' keys' : List ℕ) (r : ℕ)
+      module _ {passed : ℕ} (judged : JudgedPlanned ps p.keys changed fresh (judged-so.rest able new walked left)
+          (judged-so.from able new walked left) (judged-so.all able new walked) c.cycles c.deadline terms passed)
+          {places' keys' : List ℕ} {r : ℕ}
           (made : Accepted p.totals.count p.places p.keys changed fresh w.noted.changes u.below places' keys' r) where
         abbrev ps' : List ℕ
         ps' = take r places'
@@ -233,13 +237,13 @@ module _ (p : PlanParts) (kept : Kept) (changed₀ fresh₀ : List ℕ) (job : J
         from = u.below + u.settled
 
         abbrev pub upto : ℕ
-        upto = j.passed + r - p.totals.count
+        upto = passed + r - p.totals.count
 
         abbrev all : ℕ
         all = p.totals.cycles + w.added
 
-        abbrev pub after : PlanParts
-        after = plan_parts (record { count = r; cycles = all }) places' keys'
+        abbrev pub after : Plan
+        after = record { totals = record { count = r; cycles = all }; places = places'; keys = keys' }
 
         long : length ps' ≡ r
         long = length_planned r places' keys' made.stand
@@ -264,7 +268,7 @@ module _ (p : PlanParts) (kept : Kept) (changed₀ fresh₀ : List ℕ) (job : J
               ∙ sym (turning.trial_told p job c terms stand t of new changed fresh w walked
               ∙ front_apart js of.valid.jobs_rise p.keys u.below (far_first w.noted.changes changed fresh) ps
               walked.well_noted.forward (each_below (length js) ps of.of_jobs) (each_change_of js changed fresh w.noted.changes noted_of)
-              (judged-so.lowers p kept changed₀ fresh₀ job c terms able new changed fresh w walked u left))
+              (judged-so.lowers able new walked left))
 
           pub after_of_jobs : AllBelow (length t.jobs) ps'
           after_of_jobs = made.of_jobs t.jobs of.of_jobs noted_of
@@ -282,21 +286,20 @@ module _ (p : PlanParts) (kept : Kept) (changed₀ fresh₀ : List ℕ) (job : J
         cs : List Entry
         cs = entries_of js (far_first (w.noted.changes - u.settled) changed fresh)
 
-        behind : EndsWith (merged cs (staying cs (entries_in js p.keys (drop from ps)))) (entries_in js p.keys (drop j.passed ps))
+        behind : EndsWith (merged cs (staying cs (entries_in js p.keys (drop from ps)))) (entries_in js p.keys (drop passed ps))
         unfolding cs
         behind =
-            judged.ahead js _ (judged-so.run_of p kept changed₀ fresh₀ job c terms able new changed fresh w walked u left able.table of)
-            stand.sorted (judged-so.to-go p kept changed₀ fresh₀ job c terms able new changed fresh w walked u left able.table of)
-            planned_so
+            judged.ahead js _ (judged-so.run_of able new walked left of)
+            stand.sorted (judged-so.to-go able new walked left of)
 
-        jobs_by_parts : jobs_at js ps' ≡ jobs_at js (take from ps) ++ (jobs_of behind.front ++ jobs_at js (drop j.passed ps))
+        jobs_by_parts : jobs_at js ps' ≡ jobs_at js (take from ps) ++ (jobs_of behind.front ++ jobs_at js (drop passed ps))
         unfolding cs
         jobs_by_parts =
             jobs_after able.table of
-            ∙ judged-so.jobs_told p kept changed₀ fresh₀ job c terms able new changed fresh w walked u left able.table of
+            ∙ judged-so.jobs_told able new walked left of
             ∙ ap (λ l. jobs_at js (take from ps) ++ l)
-            (ap jobs_of behind.parts ∙ judged-so.jobs_parts behind.front (entries_in js p.keys (drop j.passed ps))
-            ∙ ap (λ l. jobs_of behind.front ++ l) (jobs_of_entries js p.keys (drop j.passed ps)))
+            (ap jobs_of behind.parts ∙ judged-so.jobs_parts behind.front (entries_in js p.keys (drop passed ps))
+            ∙ ap (λ l. jobs_of behind.front ++ l) (jobs_of_entries js p.keys (drop passed ps)))
 
         each_before : Each (λ q. q < length js) ps
         each_before = each_below (length js) ps of.of_jobs
@@ -311,12 +314,12 @@ module _ (p : PlanParts) (kept : Kept) (changed₀ fresh₀ : List ℕ) (job : J
         front_same =
             jobs_tell_places js of.valid.jobs_rise (each_taken from each_after) (each_taken from each_before)
             (taken_jobs js from ps' ∙ ap (take from) jobs_by_parts
-            ∙ take_at (jobs_at js (take from ps)) (jobs_of behind.front ++ jobs_at js (drop j.passed ps)) from long_front)
+            ∙ take_at (jobs_at js (take from ps)) (jobs_of behind.front ++ jobs_at js (drop passed ps)) from long_front)
 
         long_changed : length (jobs_at js (take from ps) ++ jobs_of behind.front) ≡ upto
         long_changed =
             let whole = sym (length_jobs_at js ps') ∙ ap length jobs_by_parts in
-            let tail = length_jobs_at js (drop j.passed ps) ∙ length-drop j.passed ps in
+            let tail = length_jobs_at js (drop passed ps) ∙ length-drop passed ps in
             omega (
               arith,
               whole,
@@ -324,24 +327,24 @@ module _ (p : PlanParts) (kept : Kept) (changed₀ fresh₀ : List ℕ) (job : J
               long_before,
               tail,
               judged.inside,
-              length-append (jobs_at js (take from ps)) (jobs_of behind.front ++ jobs_at js (drop j.passed ps)),
-              length-append (jobs_of behind.front) (jobs_at js (drop j.passed ps)),
+              length-append (jobs_at js (take from ps)) (jobs_of behind.front ++ jobs_at js (drop passed ps)),
+              length-append (jobs_of behind.front) (jobs_at js (drop passed ps)),
               length-append (jobs_at js (take from ps)) (jobs_of behind.front),
             )
 
-        behind_same : drop upto ps' ≡ drop j.passed ps
+        behind_same : drop upto ps' ≡ drop passed ps
         behind_same =
-            jobs_tell_places js of.valid.jobs_rise (each_dropped upto each_after) (each_dropped j.passed each_before)
+            jobs_tell_places js of.valid.jobs_rise (each_dropped upto each_after) (each_dropped passed each_before)
             (dropped_jobs js upto ps' ∙ ap (drop upto) (jobs_by_parts
-            ∙ sym (append_assoc (jobs_at js (take from ps)) (jobs_of behind.front) (jobs_at js (drop j.passed ps))))
-            ∙ drop_at (jobs_at js (take from ps) ++ jobs_of behind.front) (jobs_at js (drop j.passed ps)) upto long_changed)
+            ∙ sym (append_assoc (jobs_at js (take from ps)) (jobs_of behind.front) (jobs_at js (drop passed ps))))
+            ∙ drop_at (jobs_at js (take from ps) ++ jobs_of behind.front) (jobs_at js (drop passed ps)) upto long_changed)
 
         pub ends_so_far : EndsTrue from c.cycles ps' kept.ends
         ends_so_far = ends_in_front c.cycles ps ps' from kept.ends left.inside front_same able.kept_true.ends_true
 
         pub latests_so_far : LatestsTrue upto c.cycles c.deadline ps' kept.latests
         latests_so_far =
-            latests_behind c.cycles ps ps' c.deadline upto j.passed kept.latests behind_same able.kept_true.latests_true
+            latests_behind c.cycles ps ps' c.deadline upto passed kept.latests behind_same able.kept_true.latests_true
 
         pub from_inside : from ≤ length ps'
         from_inside = omega (arith, long, long_changed, length-append (jobs_at js (take from ps)) (jobs_of behind.front), long_front, made.no_fewer, judged.inside, long_before)
@@ -359,12 +362,12 @@ module _ (p : PlanParts) (kept : Kept) (changed₀ fresh₀ : List ℕ) (job : J
 
         total_so : all ≡ cycles_at c.cycles ps'
         total_so =
-            judged-so.all_told p kept changed₀ fresh₀ job c terms able new changed fresh w walked u left able.table of
+            judged-so.all_told able new walked left of
             ∙ sym (cycles_of_jobs c.cycles js of.columns_of.cycles-of ps' ∙ ap cycles_of (jobs_after able.table of))
 
         pub trial_is_accepted : (ends' latests' : List ℕ) → length ends' ≡ most_jobs → length latests' ≡ most_jobs
             → EndsTrue (length ps') c.cycles ps' ends' → LatestsTrue 0 c.cycles c.deadline ps' latests'
-            → TurnTaken p job c terms after (kept_of ends' latests') changed fresh fate_planned
+            → TurnTaken p job c terms after (record { ends = ends'; latests = latests' }) changed fresh fate_planned
         trial_is_accepted ends' latests' a b ends latests = record {
           standing = record {
             entries_stand = made.stand;
@@ -372,13 +375,13 @@ module _ (p : PlanParts) (kept : Kept) (changed₀ fresh₀ : List ℕ) (job : J
           };
           outcome = λ t of.
               ap (λ (l : List Entry). record { plan = l; fate = fate_planned }) (plan_told t of)
-              ∙ accepted_so t (turn_of t (get_or t.jobs job.place no_job)) (plan_in t.jobs p) (new_told t of) (gives_told t of) j.fate
-              (judged-so.fate-told p kept changed₀ fresh₀ job c terms able new changed fresh w walked u left t of j judged) planned_so;
+              ∙ accepted_so t (turn_of t (get_or t.jobs job.place no_job)) (plan_in t.jobs p) (new_told t of) (gives_told t of) fate_planned
+              (judged-so.fate-told able new walked left of fate_planned judged.fate) refl;
           of_jobs = λ t of. after_of_jobs t of;
           total_true = total_so;
           kept_true = record { ends_length = a; latests_length = b; ends_true = ends; latests_true = latests };
           changed_length = walked.changed_length;
           fresh_length = walked.fresh_length;
           no_fall = omega arith;
-          within = λ was. judged.within planned_so;
+          within = λ was. judged.within;
         }

@@ -2,32 +2,30 @@
 -- changes, far end first, and the places that these move leave the plan in their order. So the trial of the rules is the merge of
 -- what was noted with what stays. Assumes nothing.
 use mathlib.Core.Bool.{Bool, true, false, cond}
-use mathlib.Core.List.{List, [], ◌∷◌, ◌++◌, map, reverse}
-use mathlib.Core.Option.{Option, none, some}
+use mathlib.Core.List.{List, [], ◌∷◌, map, reverse}
+use mathlib.Core.Option.{some}
 use mathlib.Core.Path.{◌≡◌, refl, sym, ap, ◌∙◌}
 use Prim.Native.Nat.{ℕ, suc, ◌+◌, ◌≤◌, ◌<◌}
 use native.Mathlib.Omega.{arith}
 use lib.ListN.{get_or, length, take}
-use Rattle.changes.proofs.Merging.{OnceEach, pairs_reversed, staying_reversed, total_reversed}
-use Rattle.changes.proofs.OfTurns.{chain_apart, chain_in_order, each_runs_in, sound_once, turn_cycles, turn_merges}
+use Rattle.changes.proofs.Merging.{pairs_reversed, staying_reversed, total_reversed}
+use Rattle.changes.proofs.OfTurns.{chain_in_order, turn_cycles, turn_merges}
 use Rattle.changes.proofs.Walk.{changes_in_pairs}
-use Rattle.changes.specs.Changes.{changes_along, changes_of, key_in, key_of, merged, staying, stands_at}
+use Rattle.changes.specs.Changes.{changes_of, key_in, key_of, merged, staying, stands_at}
 use Rattle.columns.proofs.Entries.{jobs_of_entries}
-use Rattle.columns.specs.Columns.{AllBelow, Column, entries_in, entry_at, jobs_at}
+use Rattle.columns.specs.Columns.{AllBelow, entries_in, entry_at}
 use Rattle.columns.specs.declared.Terms.{Terms}
 use Rattle.entries.proofs.Found.{found_among, in_plan_among}
 use Rattle.entries.proofs.Sums.{cycles_of_jobs}
 use Rattle.entries.specs.Places.{first_where, index_of, not_planned}
 use Rattle.entries.specs.Promises.{cycles_at}
 use Rattle.judgements.specs.Changes.{Change, entries_of, far_first, places_of}
-use Rattle.laws.proofs.Choices.{split}
-use Rattle.laws.proofs.Elements.{each_map, each_too, map_append}
-use Rattle.laws.proofs.Lookups.{each_both}
+use Rattle.laws.proofs.Elements.{each_map, each_too}
 use Rattle.laws.proofs.Numbered.{same_place}
 use Rattle.laws.proofs.Pairs.{pairs_map, pairs_too}
 use Rattle.laws.specs.Pairs.{Pairwise, among, no_pair, ◌then◌}
 use Rattle.rules.specs.Lists.{Each, Rising, find, keep, none_left, only_if, total, ◌and◌}
-use Rattle.rules.specs.Plan.{Entry, Turn, awaited, course, cycles_of, in_plan, is_of, jobs_of, left, no_turn_yet, same, top_of}
+use Rattle.rules.specs.Plan.{Entry, Turn, cycles_of, in_plan, is_of, jobs_of, left, no_turn_yet, same}
 use Rattle.rules.specs.Plan.{trial, turn_of, waits_left}
 use Rattle.rules.specs.TableText.{Records, most_jobs, no_job}
 use Rattle.rules.specs.declared.Job.{Job}
@@ -36,7 +34,8 @@ use Rattle.steps.proofs.Turns.{OfLeft}
 use Rattle.trials.proofs.Accepting.{each_change_of}
 use Rattle.trials.proofs.Leaving.{keep_alike, leave_in_order}
 use Rattle.trials.proofs.Once.{not_among}
-use Rattle.trials.specs.Promises.{EntriesStand, PlanParts, TurnColumns, TurnOf, WalkNoted, is_planned, plan_in, planned_places}
+use Rattle.trials.specs.Promises.{EntriesStand, TurnColumns, TurnOf, WalkNoted, is_planned, plan_in, planned_places}
+use Rattle.trials.specs.declared.Plan.{Plan}
 use Rattle.trials.specs.declared.JobInTurn.{JobInTurn}
 use Rattle.trials.specs.declared.Walked.{Walked}
 
@@ -65,7 +64,7 @@ pairs_unmapped {R} f {xs = x ∷ xs} (r then rs) = each_unmapped f r then pairs_
     each_unmapped f {xs = []} none_left = none_left
     each_unmapped {P} f {xs = x ∷ xs} (p and ps) = p and each_unmapped {P = P} f {xs = xs} ps
 
-module _ (p : PlanParts) (job : JobInTurn) (c : TurnColumns) (terms : Terms)
+module _ (p : Plan) (job : JobInTurn) (c : TurnColumns) (terms : Terms)
     (stand : EntriesStand p.totals.count p.places p.keys) (t : Records) (of : TurnOf t p job c terms) where
   abbrev pub js : List Job
   js = t.jobs

@@ -4,12 +4,12 @@
 use mathlib.Core.Bool.{cond, false}
 use mathlib.Core.List.{List, [], ◌∷◌, reverse, reverse_aux}
 use mathlib.Core.Option.{Option, none, some}
-use mathlib.Core.Path.{◌≡◌, refl, sym, ap, subst, ◌∙◌}
-use Prim.Native.Nat.{ℕ, zero, suc, min, ◌+◌, ◌≤◌, ◌<◌}
+use mathlib.Core.Path.{◌≡◌, refl, sym, ap, ◌∙◌}
+use Prim.Native.Nat.{ℕ, zero, suc, min, ◌+◌, ◌*◌, ◌≤◌, ◌<◌}
 use native.Mathlib.Omega.{arith}
 use borrow.Author.Tests.{le-ltb, lt-ltb}
 use lib.Dec.{eqb}
-use lib.ListN.{get_or, length, set}
+use lib.ListN.{get_or, length, length-set, set}
 use Rattle.chains.proofs.Walks.{is_place, job-at, next_met, nobody_at}
 use Rattle.chains.specs.Promises.{most_members}
 use Rattle.chains.specs.Waits.{PlaceOrNobody, Waits, at_place, places_from}
@@ -18,13 +18,14 @@ use Rattle.changes.specs.Changes.{changes_along}
 use Rattle.columns.specs.Columns.{AtMost, Column}
 use Rattle.entries.specs.Places.{not_planned}
 use Rattle.judgements.specs.Changes.{Change, WellNoted, entries_of, far_first, most_changes, places_of}
+use Rattle.judgements.specs.declared.Noted.{Noted}
 use Rattle.laws.proofs.Choices.{eqb_swap, neither}
 use Rattle.laws.proofs.Elements.{each_too}
 use Rattle.laws.proofs.Lookups.{none_any}
 use Rattle.laws.specs.Pairs.{Distinct, among, no_pair, ◌then◌}
 use Rattle.rules.specs.Lists.{Each, keep, none_left, only_if, total, ◌and◌}
 use Rattle.rules.specs.Plan.{awaited, follow}
-use Rattle.rules.specs.TableText.{most_holds, most_jobs, most_time, no_job}
+use Rattle.rules.specs.TableText.{most_cycles, most_holds, most_jobs, most_time, no_job}
 use Rattle.rules.specs.declared.Job.{Job}
 use Rattle.steps.proofs.Entries.{entry}
 use Rattle.trials.proofs.FarFirst.{change, each_noted, noted_next}
@@ -303,34 +304,94 @@ module _ (place : ℕ) (keys waits critical cycles : List ℕ) where
     of_jobs = λ js next column h. each_noted changed fresh changes (w.of_jobs js next column h);
   }
 
-  -- The same for the columns in which the changes are noted.
-  module _ (changed fresh : List ℕ) where
-    pub walk_begun : Walkable place keys waits critical cycles changed fresh
-        → let limit = get_or critical place 0 in
-        Walking (far_first 1 (set changed 0 place) (set fresh 0 limit)) limit 0 (get_or cycles place 0) (get_or waits place 0) most_holds
-    walk_begun pre =
-        subst (λ ds. Walking ds (get_or critical place 0) 0 (get_or cycles place 0) (get_or waits place 0) most_holds)
-        (sym (noted_next changed fresh 0 place (get_or critical place 0) (omega (arith, pre.changed_length))
-        (omega (arith, pre.fresh_length))))
-        (walk_begins pre.critical_small pre.place_below pre.not-planned pre.apart)
+-- In mid-walk, with the columns in which the changes are noted: so many steps are left, and a place for what each may note.
+pub record InWalk (place : ℕ) (keys waits critical cycles changed fresh : List ℕ) (noted : Noted) (limit added at left : ℕ)
+    : Type 0 where
+  pub some : 1 ≤ noted.changes
+  pub few : noted.changes + left ≤ most_changes
+  pub moved_few : noted.moved ≤ noted.changes
+  pub added_small : added ≤ most_cycles * noted.changes
+  pub changed_length : length changed ≡ most_changes
+  pub fresh_length : length fresh ≡ most_changes
+  pub walking : Walking place keys waits critical cycles (far_first noted.changes changed fresh) limit noted.moved added at left
 
-    module _ (changes limit moved added at left : ℕ) (w : Walking (far_first changes changed fresh) limit moved added at left)
-        (left' : ℕ) (h : at < most_jobs) (e : left ≡ suc left') (l : changes < length changed) (m : changes < length fresh)
-      where
-        pub one_more_moves : get_or keys at 0 < not_planned → limit ≤ get_or keys at 0
-            → Walking (far_first (changes + 1) (set changed changes at) (set fresh changes limit)) limit (moved + 1) added
-            (get_or waits at 0) left'
-        one_more_moves g k =
-            subst (λ ds. Walking ds limit (moved + 1) added (get_or waits at 0) left')
-            (sym (noted_next changed fresh changes at limit l m))
-            (member_moves (far_first changes changed fresh) limit moved added at left w left' h e g k)
+module _ {place : ℕ} {keys waits critical cycles changed fresh : List ℕ} where
+  -- The job itself is noted.
+  pub begins : (pre : Walkable place keys waits critical cycles changed fresh)
+      → InWalk place keys waits critical cycles (set changed 0 place) (set fresh 0 (get_or critical place 0))
+      (record { changes = 1; moved = 0 }) (get_or critical place 0) (get_or cycles place 0) (get_or waits place 0) most_holds
+  begins pre = record {
+    some = omega arith;
+    few = omega arith;
+    moved_few = omega arith;
+    added_small = omega (arith, pre.cycles_small place);
+    changed_length = length-set changed 0 place ∙ pre.changed_length;
+    fresh_length = length-set fresh 0 (get_or critical place 0) ∙ pre.fresh_length;
+    walking = rw
+        (noted_next changed fresh 0 place (get_or critical place 0) (omega (arith, pre.changed_length))
+        (omega (arith, pre.fresh_length)))
+        (walk_begins place keys waits critical cycles pre.critical_small pre.place_below pre.not-planned pre.apart);
+  }
 
-        pub one_more_comes_in : not_planned ≤ get_or keys at 0
-            → let lowered = min limit (get_or critical at 0) in
-            Walking (far_first (changes + 1) (set changed changes at) (set fresh changes lowered)) lowered moved
-            (added + get_or cycles at 0) (get_or waits at 0) left'
-        one_more_comes_in g =
-            let lowered = min limit (get_or critical at 0) in
-            subst (λ ds. Walking ds lowered moved (added + get_or cycles at 0) (get_or waits at 0) left')
-            (sym (noted_next changed fresh changes at lowered l m))
-            (member_comes_in (far_first changes changed fresh) limit moved added at left w left' h e g)
+  module _ {noted : Noted} {limit added at left : ℕ}
+      (on : InWalk place keys waits critical cycles changed fresh noted limit added at left) where
+    -- It is over.
+    pub ends : Over waits left at → WalkNoted place keys waits critical cycles changed fresh (record { noted = noted; added = added })
+    ends over =
+        walk_ends place keys waits critical cycles changed fresh noted.changes limit noted.moved added at left on.walking
+        on.changed_length on.fresh_length on.some (omega (arith, on.few)) over
+
+    module _ (here : at < most_jobs) (left' : ℕ) (e : left ≡ suc left') where
+      -- A member stays.
+      pub stays_there : get_or keys at 0 < limit
+          → InWalk place keys waits critical cycles changed fresh noted (get_or keys at 0) added (get_or waits at 0) left'
+      stays_there g = record {
+        some = on.some;
+        few = omega (arith, on.few);
+        moved_few = on.moved_few;
+        added_small = on.added_small;
+        changed_length = on.changed_length;
+        fresh_length = on.fresh_length;
+        walking =
+            member_stays place keys waits critical cycles (far_first noted.changes changed fresh) limit noted.moved added at left
+            on.walking left' here e g;
+      }
+
+      -- A member moves.
+      pub moves_to_limit : get_or keys at 0 < not_planned → limit ≤ get_or keys at 0
+          → InWalk place keys waits critical cycles (set changed noted.changes at) (set fresh noted.changes limit)
+          (record { changes = noted.changes + 1; moved = noted.moved + 1 }) limit added (get_or waits at 0) left'
+      moves_to_limit g m = record {
+        some = omega arith;
+        few = omega (arith, on.few);
+        moved_few = omega (arith, on.moved_few);
+        added_small = omega (arith, on.added_small);
+        changed_length = length-set changed noted.changes at ∙ on.changed_length;
+        fresh_length = length-set fresh noted.changes limit ∙ on.fresh_length;
+        walking = rw
+            (noted_next changed fresh noted.changes at limit (omega (arith, on.few, on.changed_length))
+            (omega (arith, on.few, on.fresh_length)))
+            (member_moves place keys waits critical cycles (far_first noted.changes changed fresh) limit noted.moved added at left
+            on.walking left' here e g m);
+      }
+
+      -- A member comes in.
+      pub comes_in_there : AtMost most_cycles cycles → not_planned ≤ get_or keys at 0
+          → let lowered = min limit (get_or critical at 0) in
+          InWalk place keys waits critical cycles (set changed noted.changes at) (set fresh noted.changes lowered)
+          (record { changes = noted.changes + 1; moved = noted.moved }) lowered (added + get_or cycles at 0) (get_or waits at 0) left'
+      comes_in_there small g =
+          let lowered = min limit (get_or critical at 0) in
+          record {
+            some = omega arith;
+            few = omega (arith, on.few);
+            moved_few = omega (arith, on.moved_few);
+            added_small = omega (arith, on.added_small, small at);
+            changed_length = length-set changed noted.changes at ∙ on.changed_length;
+            fresh_length = length-set fresh noted.changes lowered ∙ on.fresh_length;
+            walking = rw
+                (noted_next changed fresh noted.changes at lowered (omega (arith, on.few, on.changed_length))
+                (omega (arith, on.few, on.fresh_length)))
+                (member_comes_in place keys waits critical cycles (far_first noted.changes changed fresh) limit noted.moved added
+                at left on.walking left' here e g);
+          }

@@ -1,5 +1,5 @@
 -- What the functions of steps 6 and 7 ask and promise.
-use Rattle.std.specs.Prelude.{Bool, cond, List, ◌∷◌, ◌++◌, map, reverse, ◌≡◌, ℕ, ◌+◌, ◌-◌, ◌*◌, ◌≤◌, ◌<◌, ltb, drop, get_or, length, take}
+use Rattle.std.specs.Prelude.{Bool, cond, List, ◌∷◌, ◌++◌, map, reverse, ◌≡◌, ℕ, ◌+◌, ◌-◌, ◌*◌, ◌≤◌, ◌<◌, ltb, drop, get_or, length, replicate, take, Result, Ok, Err}
 use Rattle.std.proofs.Math.Option.{Option, some}
 use Rattle.chains.specs.Promises.{most_members}
 use Rattle.chains.specs.Waits.{Waits, places_from}
@@ -10,35 +10,37 @@ use Rattle.columns.specs.declared.Terms.{Terms}
 use Rattle.entries.specs.Places.{Sorted, not_planned, part}
 use Rattle.entries.specs.Promises.{JobPlaces, cycles_at}
 use Rattle.judgements.specs.Changes.{WellNoted, entries_of, far_first, most_changes, places_of}
-use Rattle.judgements.specs.Promises.{EndsTrue, LatestsTrue, no_bound}
+use Rattle.judgements.specs.Promises.{EndsTrue, LatestsTrue}
+use Rattle.judgements.specs.declared.Kept.{Kept}
 use Rattle.judgements.specs.declared.Noted.{Noted}
 use Rattle.laws.specs.Pairs.{Distinct, among}
+use Rattle.rules.specs.Answers.{fate_number}
 use Rattle.rules.specs.Lists.{Each, Rising, find, keep, only_if, total}
-use Rattle.rules.specs.Plan.{Entry, awaited, chain_of, course, left, no_turn_yet, ratio_of, same, top_of, turn, turn_of, waits_left}
+use Rattle.rules.specs.Plan.{Entry, awaited, chain_of, course, fate_planned, left, no_turn_yet, ratio_of, same, top_of, turn, turn_of, waits_left}
 use Rattle.rules.specs.TableText.{Records, most_cycles, most_jobs, most_time, no_job}
 use Rattle.rules.specs.Valid.{Valid}
+use Rattle.rules.specs.declared.Fate.{Fate}
 use Rattle.rules.specs.declared.Job.{Job}
 use Rattle.steps.specs.Deadlines.{deadline_of}
 use Rattle.trials.specs.declared.JobInTurn.{JobInTurn}
-use Rattle.trials.specs.declared.Totals.{Totals}
+use Rattle.trials.specs.declared.Plan.{Plan}
 use Rattle.trials.specs.declared.Untouched.{Untouched}
 use Rattle.trials.specs.declared.Walked.{Walked}
 
--- A plan as the code has it: its totals, the places of its jobs in plan order, and the key of each job at the job's place.
-pub record PlanParts : Type 0 where
-  pub totals : Totals
-  pub places : List ℕ
-  pub keys : List ℕ
-
-abbrev pub plan_parts : Totals → List ℕ → List ℕ → PlanParts
-plan_parts totals places keys = record { totals = totals; places = places; keys = keys }
+-- the plan without entries
+abbrev pub no_entries : Plan
+no_entries = record {
+  totals = record { count = 0; cycles = 0 };
+  places = replicate most_jobs 0;
+  keys = replicate most_jobs not_planned;
+}
 
 -- the places of its entries
-abbrev pub planned_places : PlanParts → List ℕ
+abbrev pub planned_places : Plan → List ℕ
 planned_places p = take p.totals.count p.places
 
 -- the plan record's total is the sum of all entries' cycles
-abbrev pub TotalTrue : List ℕ → PlanParts → Type 0
+abbrev pub TotalTrue : List ℕ → Plan → Type 0
 TotalTrue cycles p = p.totals.cycles ≡ cycles_at cycles (planned_places p)
 
 -- a place is in the plan, by its key
@@ -57,27 +59,19 @@ pub record EntriesStand (count : ℕ) (places keys : List ℕ) : Type 0 where
   pub keys_tell : (place : ℕ) → place < most_jobs → is_planned keys place ≡ among (take count places) place
 
 -- A plan of such entries.
-pub record PlanStanding (p : PlanParts) : Type 0 where
+pub record PlanStanding (p : Plan) : Type 0 where
   pub entries_stand : EntriesStand p.totals.count p.places p.keys
   pub cycles_small : p.totals.cycles ≤ most_cycles * p.totals.count
 
 -- the entries of a plan
-abbrev pub plan_in : List Job → PlanParts → List Entry
+abbrev pub plan_in : List Job → Plan → List Entry
 plan_in js p = entries_in js p.keys (planned_places p)
 
 -- each place of the plan is that of a job
-abbrev pub OfJobs : List Job → PlanParts → Type 0
+abbrev pub OfJobs : List Job → Plan → Type 0
 OfJobs js p = AllBelow (length js) (planned_places p)
 
--- What is kept of the entries, at their jobs' places.
-pub record Kept : Type 0 where
-  pub ends : List ℕ
-  pub latests : List ℕ
-
-abbrev pub kept_of : List ℕ → List ℕ → Kept
-kept_of ends latests = record { ends = ends; latests = latests }
-
--- The cycles run by their ends, and their latest beginnings.
+-- What is kept of the entries is true: the cycles run by their ends, and their latest beginnings.
 pub record KeptTrue (cycles deadline ps : List ℕ) (kept : Kept) : Type 0 where
   pub ends_length : length kept.ends ≡ most_jobs
   pub latests_length : length kept.latests ≡ most_jobs
@@ -178,7 +172,6 @@ columns_read waits critical cycles deadline =
 pub record TurnColumnsInRange (c : TurnColumns) : Type 0 where
   pub critical_small : AtMost most_time c.critical
   pub cycles_small : AtMost most_cycles c.cycles
-  pub deadline_small : (p : ℕ) → get_or c.deadline p 0 < no_bound
 
 -- They are those of the table: whom each job waits for among those that steps 1 and 2 leave, the jobs' fields, and their deadlines.
 pub record TurnColumnsOf (t : Records) (c : TurnColumns) : Type 0 where
@@ -198,7 +191,7 @@ pub record PlanOfTurns (t : Records) (p : List Entry) : Type 0 where
   pub by_turns : p ≡ (course t (map (turn_of t) taken) no_turn_yet).plan
 
 -- Columns and terms are those of the table, the plan is one that its turns leave, and the job whose turn it is remains.
-pub record TurnOf (t : Records) (p : PlanParts) (job : JobInTurn) (c : TurnColumns) (terms : Terms) : Type 0 where
+pub record TurnOf (t : Records) (p : Plan) (job : JobInTurn) (c : TurnColumns) (terms : Terms) : Type 0 where
   pub valid : Valid t
   pub terms_of : TermsOf t terms
   pub columns_of : TurnColumnsOf t c
@@ -209,7 +202,7 @@ pub record TurnOf (t : Records) (p : PlanParts) (job : JobInTurn) (c : TurnColum
   pub over_of : job.over ≡ (ratio_of t (chain_of t (get_or t.jobs job.place no_job))).over
 
 -- A plan with what is kept of it and a place, of a table; columns and terms in their ranges: no sum or product wraps.
-pub record Turnable (p : PlanParts) (kept : Kept) (changed fresh : List ℕ) (job : JobInTurn) (c : TurnColumns) (terms : Terms)
+pub record Turnable (p : Plan) (kept : Kept) (changed fresh : List ℕ) (job : JobInTurn) (c : TurnColumns) (terms : Terms)
     : Type 0 where
   pub standing : PlanStanding p
   pub total_true : TotalTrue c.cycles p
@@ -222,9 +215,14 @@ pub record Turnable (p : PlanParts) (kept : Kept) (changed fresh : List ℕ) (jo
   pub table : Records
   pub of_table : TurnOf table p job c terms
 
+-- the fate of a trial: one that is not dropped is planned
+abbrev pub trial_fate : Result (Unit {0}) Fate → ℕ
+trial_fate (Ok _) = fate_planned
+trial_fate (Err why) = fate_number why
+
 -- A turn: the plan and the fate as the rules leave them. The record's total is the sum of all entries' cycles, after an accepted
 -- and after a dropped trial; it never falls, and at top cost it stays within budget. What is kept is true of the plan.
-pub record TurnTaken (before : PlanParts) (job : JobInTurn) (c : TurnColumns) (terms : Terms) (after : PlanParts) (kept' : Kept)
+pub record TurnTaken (before : Plan) (job : JobInTurn) (c : TurnColumns) (terms : Terms) (after : Plan) (kept' : Kept)
     (changed' fresh' : List ℕ) (fate : ℕ) : Type 0 where
   pub standing : PlanStanding after
   pub outcome : (t : Records) → TurnOf t before job c terms

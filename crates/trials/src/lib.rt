@@ -1,25 +1,49 @@
 // Steps 6 and 7 of "From jobs to a plan", by what a trial changes (document 02, A4): a walk along the chain notes the changes, from
-// keys alone, the order that they would make is judged, and only an accepted trial moves anything. The plan is the first so many of
-// a lent column of places of jobs in the table. The key of each job stands in another, at the job's place, and what is kept of its
-// entry in two more: the cycles run by its end, and its latest beginning.
+// keys alone, the order that they would make is judged, and only an accepted trial moves anything.
 #![tactic(auto)]
 
-ghost use Rattle.std.specs.Prelude.{◌≡◌, ◌-◌, ◌≤◌, min, length};
+ghost use Rattle.std.specs.Prelude.{◌≡◌, ◌≢◌, ◌≤◌, get_or, length};
+ghost use Rattle.entries.specs.Places.{not_planned};
 ghost use Rattle.judgements.specs.Promises.{EndsTrue, LatestsTrue};
+ghost use Rattle.rules.specs.Answers.{fate_number};
 ghost use Rattle.trials.specs.Promises.{Acceptable, Accepted, LeftUntouched, Renewable, Touchable, Turnable, TurnTaken, Walkable, WalkNoted};
-ghost use Rattle.trials.specs.Promises.{columns_read, kept_of, plan_parts};
+ghost use Rattle.trials.specs.Promises.{columns_read, no_entries, trial_fate};
 
-use columns::Terms;
+use columns::{Columns, Terms};
 use entries::{NOT_PLANNED, insert, move_up, place_for};
-use judgements::{MOST_CHANGES, Noted, judge, latest_at, run_before};
-use rules::{FATE_PLANNED, FATE_RATIO_ZERO, MOST_HOLDS, MOST_JOBS};
+use judgements::{Changes, Kept, Noted, Order, latest_at, run_before};
+use rules::{Fate, MOST_HOLDS, MOST_JOBS};
 
-// The plan record, by value beside the lent columns of its places and keys: how many entries it has, and the sum of their
-// cycles. So no pass over the entries adds them up again.
+// How many entries a plan has, and the sum of their cycles. So no pass over the entries adds them up again.
 #[derive(Clone, Copy)]
 pub struct Totals {
     pub count: usize,
     pub cycles: u64,
+}
+
+// The plan that turns work on: its totals; the places of its jobs in plan order, the first so many, as there is no heap; and the key of
+// each job, at the job's place.
+#[derive(Clone, Copy)]
+pub struct Plan {
+    pub totals: Totals,
+    pub places: [u64; MOST_JOBS],
+    pub keys: [u64; MOST_JOBS],
+}
+
+impl Plan {
+    // The plan without entries.
+    pub fn empty() -> Plan
+        ensures { result ≡ no_entries }
+    {
+        Plan {
+            totals: Totals {
+                count: 0,
+                cycles: 0,
+            },
+            places: [0; MOST_JOBS],
+            keys: [NOT_PLANNED; MOST_JOBS],
+        }
+    }
 }
 
 // The job whose turn it is: its place, and what the members of its chain give.
@@ -44,255 +68,211 @@ pub struct Untouched {
     pub settled: usize,
 }
 
-// What a turn leaves: the plan's totals, and the fate of the turn's job.
-#[derive(Clone, Copy)]
-pub struct Turned {
-    pub totals: Totals,
-    pub fate: u64,
-}
-
-// The lower of two: step 6, "lowers the limit to its critical time if that is less".
-fn lower(one: u64, other: u64) -> u64
-    ensures { result ≡ min one other }
-{
-    if other < one {
-        return other;
-    }
-    one
-}
-
 // Step 6, "Trial", from keys alone: the job at this place, which is not in the plan, and then along its chain to the far end. "a
 // member in the plan with key below the limit stays, and the limit becomes that key; one with key at or above the limit is removed
 // and inserted at the limit; one not in the plan lowers the limit .. and is inserted at the limit": what changes is noted.
-fn walk<'a>(
-    changed: &mut [u64; MOST_CHANGES],
-    fresh: &mut [u64; MOST_CHANGES],
+fn walk(
+    changes: &mut Changes,
     place: usize,
     keys: &[u64; MOST_JOBS],
-    waits: &'a [u64; MOST_JOBS],
-    critical: &'a [u64; MOST_JOBS],
-    cycles: &'a [u64; MOST_JOBS],
+    waits: &[u64; MOST_JOBS],
+    jobs: &Columns,
 ) -> Walked
-    requires { Walkable place keys.now waits.now critical.now cycles.now changed.old fresh.old }
-    ensures { WalkNoted place keys.now waits.now critical.now cycles.now changed.new fresh.new result }
+    requires { Walkable place keys.now waits.now jobs.now.critical jobs.now.cycles changes.old.places changes.old.keys }
+    ensures { WalkNoted place keys.now waits.now jobs.now.critical jobs.now.cycles changes.new.places changes.new.keys result }
 {
-    let mut limit = critical[place];
-    changed[0] = place as u64;
-    fresh[0] = limit;
-    let mut changes = 1;
-    let mut moved = 0;
-    let mut added = cycles[place];
+    let mut limit = jobs.critical[place];
+    changes.places[0] = place as u64;
+    changes.keys[0] = limit;
+    let mut noted = Noted {
+        changes: 1,
+        moved: 0,
+    };
+    let mut added = jobs.cycles[place];
     let mut at = waits[place] as usize;
-    let mut i = 0;
-    while i < MOST_HOLDS {
+    for _ in 0..MOST_HOLDS {
         if MOST_JOBS <= at {
-            let noted = Noted { changes, moved };
-            return Walked { noted, added };
+            break;
         }
         let member = at;
         let key = keys[member];
         at = waits[member] as usize;
-        i += 1;
         if key < limit {
             limit = key;
             continue;
         }
         if key < NOT_PLANNED {
-            changed[changes] = member as u64;
-            fresh[changes] = limit;
-            changes += 1;
-            moved += 1;
-            continue;
+            noted.moved += 1;
+        } else {
+            limit = limit.min(jobs.critical[member]);
+            added += jobs.cycles[member];
         }
-        limit = lower(limit, critical[member]);
-        changed[changes] = member as u64;
-        fresh[changes] = limit;
-        changes += 1;
-        added += cycles[member];
+        changes.places[noted.changes] = member as u64;
+        changes.keys[noted.changes] = limit;
+        noted.changes += 1;
     }
-    let noted = Noted { changes, moved };
     Walked { noted, added }
 }
 
 // Where a trial begins to move something: behind the entries whose keys are below all changes', and behind the moved members that
 // stand there already, far end first, as they are to stand. These only get their new keys.
-fn left_untouched<'a>(
+fn left_untouched(
     planned: &[u64],
     keys: &[u64; MOST_JOBS],
-    changed: &'a [u64; MOST_CHANGES],
-    fresh: &'a [u64; MOST_CHANGES],
+    changes: &Changes,
     noted: Noted,
 ) -> Untouched
     requires { Touchable planned.now noted }
-    ensures { LeftUntouched planned.now keys.now changed.now fresh.now noted result }
+    ensures { LeftUntouched planned.now keys.now changes.now.places changes.now.keys noted result }
 {
-    let below = place_for(planned, keys, fresh[noted.changes - 1]);
-    let mut settled = 0;
-    while settled < noted.moved {
-        if planned.len() - below <= settled {
+    let below = place_for(planned, keys, changes.keys[noted.changes - 1]);
+    let most = noted.moved.min(planned.len() - below);
+    for settled in 0..most {
+        if planned[below + settled] != changes.places[noted.changes - 1 - settled] {
             return Untouched { below, settled };
         }
-        if planned[below + settled] != changed[noted.changes - 1 - settled] {
-            return Untouched { below, settled };
-        }
-        settled += 1;
     }
-    Untouched { below, settled }
+    Untouched {
+        below,
+        settled: most,
+    }
 }
 
-// Step 6, made: each change from the far end on, an insertion behind the one before it. How many entries there are then.
-fn accept<'a>(
-    places: &mut [u64],
-    keys: &mut [u64; MOST_JOBS],
-    changed: &'a [u64; MOST_CHANGES],
-    fresh: &'a [u64; MOST_CHANGES],
-    changes: usize,
-    from: usize,
-    count: usize,
-) -> usize
-    requires { Acceptable count places.old keys.old changed.now fresh.now changes from }
-    ensures { Accepted count places.old keys.old changed.now fresh.now changes from places.new keys.new result }
+// Step 6, made: each change from the far end on, an insertion behind the one before it.
+#[inline(never)]
+fn accept(plan: &mut Plan, changes: &Changes, count: usize, from: usize)
+    requires { Acceptable plan.old.totals.count plan.old.places plan.old.keys changes.now.places changes.now.keys count from }
+    ensures made { Accepted plan.old.totals.count plan.old.places plan.old.keys changes.now.places changes.now.keys count from plan.new.places plan.new.keys plan.new.totals.count }
+    ensures cycles { plan.new.totals.cycles ≡ plan.old.totals.cycles }
 {
     let mut behind = from;
-    let mut entries = count;
-    let mut i = changes;
-    while 0 < i {
-        i -= 1;
-        let place = changed[i] as usize;
-        let key = fresh[i];
-        if keys[place] < NOT_PLANNED {
-            behind = move_up(&mut places[..], keys, behind, entries, place, key) + 1;
-            continue;
+    for i in (0..count).rev() {
+        let place = changes.places[i] as usize;
+        let key = changes.keys[i];
+        let entries = plan.totals.count;
+        if plan.keys[place] < NOT_PLANNED {
+            behind = move_up(
+                &mut plan.places,
+                &mut plan.keys,
+                behind,
+                entries,
+                place,
+                key,
+            ) + 1;
+        } else {
+            behind = insert(
+                &mut plan.places,
+                &mut plan.keys,
+                behind,
+                entries,
+                place,
+                key,
+            ) + 1;
+            plan.totals.count += 1;
         }
-        behind = insert(&mut places[..], keys, behind, entries, place, key) + 1;
-        entries += 1;
     }
-    entries
 }
 
 // What is kept of the entries from an index on: the cycles run by their ends.
+#[inline(never)]
 fn renew_ends(planned: &[u64], ends: &mut [u64; MOST_JOBS], first: usize, cycles: &[u64; MOST_JOBS])
     requires { Renewable planned.now ends.old cycles.now × (first ≤ length planned.now) × EndsTrue first cycles.now planned.now ends.old }
     ensures { (length ends.new ≡ length ends.old) × EndsTrue (length planned.now) cycles.now planned.now ends.new }
 {
     let mut run = run_before(planned, ends, first);
-    let mut i = first;
-    while i < planned.len() {
-        let place = planned[i] as usize;
-        run += cycles[place];
-        ends[place] = run;
-        i += 1;
+    for &place in &planned[first..] {
+        run += cycles[place as usize];
+        ends[place as usize] = run;
     }
-}
-
-// A difference that stops at 0.
-fn less(one: u64, other: u64) -> u64
-    ensures { result ≡ one - other }
-{
-    if one < other {
-        return 0;
-    }
-    one - other
 }
 
 // What is kept of the entries up to an index: their latest beginnings, from the back.
-fn renew_latests<'a>(
+#[inline(never)]
+fn renew_latests(
     planned: &[u64],
     latests: &mut [u64; MOST_JOBS],
     upto: usize,
-    cycles: &'a [u64; MOST_JOBS],
-    deadline: &'a [u64; MOST_JOBS],
+    cycles: &[u64; MOST_JOBS],
+    deadline: &[u64; MOST_JOBS],
 )
     requires { Renewable planned.now latests.old cycles.now × (upto ≤ length planned.now) × LatestsTrue upto cycles.now deadline.now planned.now latests.old }
     ensures { (length latests.new ≡ length latests.old) × LatestsTrue 0 cycles.now deadline.now planned.now latests.new }
 {
     let mut latest = latest_at(planned, latests, upto);
-    let mut i = upto;
-    while 0 < i {
-        i -= 1;
+    for i in (0..upto).rev() {
         let place = planned[i] as usize;
-        latest = less(lower(deadline[place], latest), cycles[place]);
+        latest = deadline[place].min(latest).saturating_sub(cycles[place]);
         latests[place] = latest;
     }
 }
 
-// Steps 5 to 7 for the job at this place: "A job already in the plan is passed over. Ratio 0 gives fate 4"; else its
-// trial is accepted, or dropped with fate 5 or 6. "A dropped trial leaves plan and keys as they stood": it touches nothing but
-// `changed` and `fresh`, which are lent, whatever they hold, since arrays here would be filled for each turn.
-pub fn turn<'a>(
-    places: &mut [u64; MOST_JOBS],
-    keys: &mut [u64; MOST_JOBS],
-    ends: &mut [u64; MOST_JOBS],
-    latests: &mut [u64; MOST_JOBS],
-    changed: &mut [u64; MOST_CHANGES],
-    fresh: &mut [u64; MOST_CHANGES],
-    totals: Totals,
+// Steps 6 and 7 for the job at this place, which is not in the plan: its trial is accepted, or dropped with fate 5 or 6. "A dropped
+// trial leaves plan and keys as they stood": it touches nothing but `changes`, which are lent, whatever they hold, since arrays here
+// would be filled for each turn.
+fn try_trial(
+    plan: &mut Plan,
+    kept: &mut Kept,
+    changes: &mut Changes,
     job: JobInTurn,
-    waits: &'a [u64; MOST_JOBS],
-    critical: &'a [u64; MOST_JOBS],
-    cycles: &'a [u64; MOST_JOBS],
-    deadline: &'a [u64; MOST_JOBS],
+    waits: &[u64; MOST_JOBS],
+    deadline: &[u64; MOST_JOBS],
+    jobs: &Columns,
     terms: Terms,
-) -> Turned
-    requires { Turnable (plan_parts totals places.old keys.old) (kept_of ends.old latests.old) changed.old fresh.old job (columns_read waits.now critical.now cycles.now deadline.now) terms }
-    ensures { TurnTaken (plan_parts totals places.old keys.old) job (columns_read waits.now critical.now cycles.now deadline.now) terms (plan_parts result.totals places.new keys.new) (kept_of ends.new latests.new) changed.new fresh.new result.fate }
+) -> Result<(), Fate>
+    requires able { Turnable plan.old kept.old changes.old.places changes.old.keys job (columns_read waits.now jobs.now.critical jobs.now.cycles deadline.now) terms }
+    requires new { not_planned ≤ get_or plan.old.keys job.place 0 }
+    requires gives { job.over ≢ 0 }
+    ensures { TurnTaken plan.old job (columns_read waits.now jobs.now.critical jobs.now.cycles deadline.now) terms plan.new kept.new changes.new.places changes.new.keys (trial_fate result) }
 {
-    let place = job.place;
-    let count = totals.count;
-    if keys[place] < NOT_PLANNED {
-        let fate = FATE_PLANNED;
-        return Turned { totals, fate };
+    let Walked { noted, added } = walk(changes, job.place, &plan.keys, waits, jobs);
+    let count = plan.totals.count;
+    let planned = &plan.places[..count];
+    let Untouched { below, settled } = left_untouched(planned, &plan.keys, changes, noted);
+    let from = below + settled;
+    let all_cycles = plan.totals.cycles + added;
+    let order = Order {
+        planned,
+        keys: &plan.keys,
+        changes,
+        noted: Noted {
+            changes: noted.changes - settled,
+            moved: noted.moved - settled,
+        },
+        cycles: &jobs.cycles,
+        deadline,
+    };
+    let passed = order.judge(kept, from, all_cycles, terms)?;
+    accept(plan, changes, noted.changes, below);
+    plan.totals.cycles = all_cycles;
+    let planned = &plan.places[..plan.totals.count];
+    renew_ends(planned, &mut kept.ends, from, &jobs.cycles);
+    let upto = passed + plan.totals.count - count;
+    renew_latests(planned, &mut kept.latests, upto, &jobs.cycles, deadline);
+    Ok(())
+}
+
+// Steps 5 to 7 for the job at this place: "A job already in the plan is passed over. Ratio 0 gives fate 4"; else its trial decides.
+pub fn turn(
+    plan: &mut Plan,
+    kept: &mut Kept,
+    changes: &mut Changes,
+    job: JobInTurn,
+    waits: &[u64; MOST_JOBS],
+    deadline: &[u64; MOST_JOBS],
+    jobs: &Columns,
+    terms: Terms,
+) -> Fate
+    requires { Turnable plan.old kept.old changes.old.places changes.old.keys job (columns_read waits.now jobs.now.critical jobs.now.cycles deadline.now) terms }
+    ensures { TurnTaken plan.old job (columns_read waits.now jobs.now.critical jobs.now.cycles deadline.now) terms plan.new kept.new changes.new.places changes.new.keys (fate_number result) }
+{
+    if plan.keys[job.place] < NOT_PLANNED {
+        return Fate::Planned;
     }
     if job.over == 0 {
-        let fate = FATE_RATIO_ZERO;
-        return Turned { totals, fate };
+        return Fate::RatioZero;
     }
-    let walked = walk(changed, fresh, place, keys, waits, critical, cycles);
-    let noted = walked.noted;
-    let all_cycles = totals.cycles + walked.added;
-    let before = &places[..];
-    let planned = &before[..count];
-    let untouched = left_untouched(planned, keys, changed, fresh, noted);
-    let settled = untouched.settled;
-    let rest = Noted {
-        changes: noted.changes - settled,
-        moved: noted.moved - settled,
-    };
-    let below = untouched.below;
-    let from = below + settled;
-    let judged = judge(
-        planned, keys, ends, latests, changed, fresh, rest, from, all_cycles, cycles, deadline,
-        terms,
-    );
-    let fate = judged.fate;
-    if fate != FATE_PLANNED {
-        return Turned { totals, fate };
-    }
-    let entries = accept(
-        &mut places[..],
-        keys,
-        changed,
-        fresh,
-        noted.changes,
-        below,
-        count,
-    );
-    let after = &places[..];
-    let planned_now = &after[..entries];
-    renew_ends(planned_now, ends, from, cycles);
-    renew_latests(
-        planned_now,
-        latests,
-        judged.passed + entries - count,
-        cycles,
-        deadline,
-    );
-    let totals_now = Totals {
-        count: entries,
-        cycles: all_cycles,
-    };
-    Turned {
-        totals: totals_now,
-        fate,
+    match try_trial(plan, kept, changes, job, waits, deadline, jobs, terms) {
+        Ok(()) => Fate::Planned,
+        Err(why) => why,
     }
 }

@@ -2,19 +2,18 @@
 -- lines further as its place says, since the lines are the lists of the letters one behind the other. The text from a line on is
 -- that line's and the text behind it. Assumes nothing.
 use mathlib.Core.List.{List, [], ◌∷◌, ◌++◌, map}
-use mathlib.Core.Path.{◌≡◌, refl, sym, ◌∙◌}
+use mathlib.Core.Path.{◌≡◌, refl, ◌∙◌}
 use Prim.Native.Nat.{ℕ, zero, suc, ◌+◌, ◌≤◌, ◌<◌}
 use native.Mathlib.Numerals.{add-one}
 use native.Mathlib.Omega.{arith}
 use lib.ListN.{length, drop, drop_of_length-le, get_or, length-append, length-map, take}
-use lib.Seq.{drop-append-add, drop-append-le, get_or-take, length-take-le}
+use lib.Seq.{drop-append-add, drop-append-le, length-take-le}
 use Rattle.checks.proofs.Places.{record-at}
-use Rattle.columns.specs.Columns.{Columns, ColumnsOf}
 use Rattle.rules.specs.Lists.{joined}
 use Rattle.rules.specs.TableText.{Record, Records, lined, no_hold, no_job, no_speed, record_text, records_of, text_of}
 use Rattle.rules.specs.declared.Table.{Table}
-use Rattle.writer.specs.Lines.{At, RecordsPlaced, StandsOn, Writes, job_in, record_on, row_text}
-use Rattle.writer.specs.declared.LineRecord.{LineRecord}
+use Rattle.writer.specs.Lines.{At, RecordsPlaced, RowAt, SpotAt, row_text}
+use Rattle.checks.specs.declared.Spot.{Spot}
 use Rattle.writer.specs.declared.Row.{Row}
 
 -- What stands at a place of two lists, one behind the other, and of a list that is mapped.
@@ -70,16 +69,16 @@ module _ (t : Table) (placed : RecordsPlaced t) where
       rw lines_in_order
       (omega (arith, length-append speeds (jobs ++ holds), length-append jobs holds, speeds_length, jobs_length, holds_length))
 
-  pub clock_stands : (i : ℕ) → i ≡ 0 → StandsOn t i LineRecord.Clock
+  pub clock_stands : (i : ℕ) → i ≡ 0 → SpotAt t i Spot.Clock
   clock_stands i e = record { within = omega arith; there = rw (e, lines_in_order) }
 
-  pub speed_stands : (i n : ℕ) → i ≡ suc n → n < t.speed_count → StandsOn t i (LineRecord.Speed n)
+  pub speed_stands : (i n : ℕ) → i ≡ suc n → n < t.speed_count → SpotAt t i (Spot.Speed n)
   speed_stands i n e h =
       let here = at_mapped Record.F t.speed_count t.speeds no_speed n h placed.speeds in
       let line = at_front speeds (jobs ++ holds) n _ (omega (arith, speeds_length)) here in
       record { within = h; there = rw (e, lines_in_order) line }
 
-  pub job_stands : (i n : ℕ) → i ≡ suc (t.speed_count + n) → n < t.job_count → StandsOn t i (LineRecord.Job n)
+  pub job_stands : (i n : ℕ) → i ≡ suc (t.speed_count + n) → n < t.job_count → SpotAt t i (Spot.Job n)
   job_stands i n e h =
       let here = at_mapped Record.J t.job_count t.jobs no_job n h placed.jobs in
       let behind = at_front jobs holds n _ (omega (arith, jobs_length)) here in
@@ -87,7 +86,7 @@ module _ (t : Table) (placed : RecordsPlaced t) where
       record { within = h; there = rw (e, lines_in_order) line }
 
   pub hold_stands : (i n : ℕ) → i ≡ suc (t.speed_count + (t.job_count + n)) → n < t.hold_count
-      → StandsOn t i (LineRecord.Hold n)
+      → SpotAt t i (Spot.Hold n)
   hold_stands i n e h =
       let place = t.job_count + n in
       let here = at_mapped Record.H t.hold_count t.holds no_hold n h placed.holds in
@@ -111,18 +110,6 @@ module _ (r : Records) where
   no_text_left i h = rw (drop_of_length-le (lined r) h)
 
 -- the text from a line on, by the row of that line
-pub row_next : (t : Table) (i : ℕ) (line : LineRecord) (row : Row) → StandsOn t i line → Writes (record_on t line) row
+pub row_next : (t : Table) (i : ℕ) (row : Row) → RowAt t i row
     → text_from (records_of t) i ≡ row_text row ++ text_from (records_of t) (i + 1)
-row_next t i line row stands writes = text_next (records_of t) i (record_on t line) stands.there ∙ rw writes.text
-
--- the job at a place of the columns is the table's, and so is its line
-job_in_columns : (t : Table) (c : Columns) → ColumnsOf (records_of t).jobs c → (n : ℕ) → n < t.job_count
-    → job_in c n ≡ get_or t.jobs n no_job
-unfolding records_of
-job_in_columns t c of n h =
-    rw (of.number n, of.cycles n, of.worth n, of.critical n, of.termination n, of.request n)
-    (get_or-take t.job_count t.jobs n no_job h)
-
-pub job_writes : (t : Table) (c : Columns) → ColumnsOf (records_of t).jobs c → (n : ℕ) → n < t.job_count → (row : Row)
-    → Writes (Record.J (job_in c n)) row → Writes (Record.J (get_or t.jobs n no_job)) row
-job_writes t c of n h row writes = rw (sym (job_in_columns t c of n h)) writes
+row_next t i row at = text_next (records_of t) i at.stands at.there ∙ rw at.text

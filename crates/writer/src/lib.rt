@@ -2,26 +2,17 @@
 // the lines, one after the other by their index.
 #![tactic(auto)]
 
-ghost use Rattle.std.specs.Prelude.{◌≡◌, ◌≤◌, ◌<◌, length};
-ghost use Rattle.columns.specs.Columns.{ColumnsOf, besides};
+ghost use Rattle.std.specs.Prelude.{[], ◌∷◌, ◌≡◌, ◌≤◌, ◌<◌, length, take};
 ghost use Rattle.grammar.specs.Put.{put};
-ghost use Rattle.rules.specs.TableText.{Record, lined, most_jobs, records_of, text_of};
-ghost use Rattle.writer.specs.Lines.{Checked, LineAt, Writes, job_in};
+ghost use Rattle.rules.specs.TableText.{lined, records_of, text_of};
+ghost use Rattle.writer.specs.Lines.{Checked, Filled, RowAt, SpotAt};
 ghost use Rattle.writer.specs.Promise.{WrittenAs};
 
-use checks::check_table;
-use rules::{Hold, MOST_FIELDS, MOST_JOBS, Refusal, Speed, Table, Verdict, Written};
+use checks::{Spot, check_table};
+use columns::Columns;
+use rules::{MOST_FIELDS, Refusal, Refused, Table};
 
-// Which record stands on a line: its letter, and its place among the table's records of that letter.
-#[derive(Clone, Copy)]
-enum LineRecord {
-    Clock,
-    Speed(usize),
-    Job(usize),
-    Hold(usize),
-}
-
-// A line's letter and its numbers: the first `count` of those here.
+// A line's letter and its numbers: the first `count` of those here, since lines have two or six of them and there is no heap.
 #[derive(Clone, Copy)]
 struct Row {
     letter: u8,
@@ -29,204 +20,119 @@ struct Row {
     numbers: [u64; MOST_FIELDS],
 }
 
-fn clock_row(clock: u64, budget: u64) -> Row
-    ensures { Writes (Record.T clock budget) result }
-{
-    Row {
-        letter: b'T',
-        count: 2,
-        numbers: [clock, budget, 0, 0, 0, 0],
+impl Row {
+    // A line of two numbers.
+    fn of_two(letter: u8, first: u64, second: u64) -> Row
+        ensures { result ≡ record { letter = letter; count = 2; numbers = first ∷ second ∷ 0 ∷ 0 ∷ 0 ∷ 0 ∷ [] } }
+    {
+        Row {
+            letter,
+            count: 2,
+            numbers: [first, second, 0, 0, 0, 0],
+        }
     }
-}
 
-fn speed_row(speed: Speed) -> Row
-    ensures { Writes (Record.F speed) result }
-{
-    Row {
-        letter: b'F',
-        count: 2,
-        numbers: [speed.mhz, speed.cost, 0, 0, 0, 0],
-    }
-}
-
-// The J line of the job at this place of the columns.
-fn job_row<'a>(
-    number: &'a [u64; MOST_JOBS],
-    cycles: &'a [u64; MOST_JOBS],
-    worth: &'a [u64; MOST_JOBS],
-    critical: &'a [u64; MOST_JOBS],
-    termination: &'a [u64; MOST_JOBS],
-    request: &'a [u64; MOST_JOBS],
-    place: usize,
-) -> Row
-    requires { place < most_jobs }
-    ensures { Writes (Record.J (job_in (besides number.now cycles.now worth.now critical.now termination.now request.now) place)) result }
-{
-    Row {
-        letter: b'J',
-        count: 6,
-        numbers: [
-            number[place],
-            cycles[place],
-            worth[place],
-            critical[place],
-            termination[place],
-            request[place],
-        ],
-    }
-}
-
-fn hold_row(hold: Hold) -> Row
-    ensures { Writes (Record.H hold) result }
-{
-    Row {
-        letter: b'H',
-        count: 2,
-        numbers: [hold.resource, hold.holder, 0, 0, 0, 0],
+    // The numbers of the line.
+    fn filled(&self) -> &[u64]
+        requires { Filled self.now }
+        ensures { result.now ≡ take self.now.count self.now.numbers }
+    {
+        &self.numbers[..self.count]
     }
 }
 
 // How many lines the text has.
-fn line_count(table: Table) -> usize
-    requires { Checked table }
-    ensures { result ≡ length (lined (records_of table)) }
+#[tactic(auto, using(crate::proofs::Lines::lines_counted))]
+fn line_count(table: &Table) -> usize
+    requires { Checked table.now }
+    ensures { result ≡ length (lined (records_of table.now)) }
 {
     1 + table.speed_count + table.job_count + table.hold_count
 }
 
-// Which record stands on line i, counted from 0, where there are so many speeds and jobs.
-fn line_at(speed_count: usize, job_count: usize, i: usize) -> LineRecord
-    ensures { LineAt speed_count job_count i result }
+// Which record stands on line i, counted from 0.
+#[tactic(auto, using(crate::proofs::Lines::clock_stands, crate::proofs::Lines::speed_stands, crate::proofs::Lines::job_stands, crate::proofs::Lines::hold_stands, crate::proofs::Lines::lines_counted))]
+fn spot_at(table: &Table, i: usize) -> Spot
+    requires { Checked table.now × (i < length (lined (records_of table.now))) }
+    ensures { SpotAt table.now i result }
 {
     if i == 0 {
-        return LineRecord::Clock;
+        return Spot::Clock;
     }
     let behind_clock = i - 1;
-    if behind_clock < speed_count {
-        return LineRecord::Speed(behind_clock);
+    if behind_clock < table.speed_count {
+        return Spot::Speed(behind_clock);
     }
-    let behind_speeds = behind_clock - speed_count;
-    if behind_speeds < job_count {
-        return LineRecord::Job(behind_speeds);
+    let behind_speeds = behind_clock - table.speed_count;
+    if behind_speeds < table.job_count {
+        return Spot::Job(behind_speeds);
     }
-    LineRecord::Hold(behind_speeds - job_count)
+    Spot::Hold(behind_speeds - table.job_count)
 }
 
-// How many bytes the text has. The jobs are read from the columns that the check made: so of the table only the F and H lines are
-// copied.
-fn text_length<'a>(
-    table: Table,
-    number: &'a [u64; MOST_JOBS],
-    cycles: &'a [u64; MOST_JOBS],
-    worth: &'a [u64; MOST_JOBS],
-    critical: &'a [u64; MOST_JOBS],
-    termination: &'a [u64; MOST_JOBS],
-    request: &'a [u64; MOST_JOBS],
-) -> usize
-    requires { Checked table × ColumnsOf (records_of table).jobs (besides number.now cycles.now worth.now critical.now termination.now request.now) }
-    ensures { result ≡ length (text_of (records_of table)) }
+// What is written on line i.
+#[tactic(auto, unfolding(rules::specs::TableText::record_text))]
+fn row_at(table: &Table, i: usize) -> Row
+    requires { Checked table.now × (i < length (lined (records_of table.now))) }
+    ensures { RowAt table.now i result }
 {
-    let lines = line_count(table);
-    let speeds = table.speeds;
-    let holds = table.holds;
+    match spot_at(table, i) {
+        Spot::Clock => Row::of_two(b'T', table.clock, table.budget),
+        Spot::Speed(n) => Row::of_two(b'F', table.speeds[n].mhz, table.speeds[n].cost),
+        Spot::Job(n) => {
+            let job = table.jobs[n];
+            Row {
+                letter: b'J',
+                count: 6,
+                numbers: [
+                    job.number,
+                    job.cycles,
+                    job.worth,
+                    job.critical,
+                    job.termination,
+                    job.request,
+                ],
+            }
+        }
+        Spot::Hold(n) => Row::of_two(b'H', table.holds[n].resource, table.holds[n].holder),
+    }
+}
+
+// How many bytes the text has.
+#[tactic(auto, using(crate::proofs::Lines::text_from_first))]
+fn text_length(table: &Table) -> usize
+    requires { Checked table.now }
+    ensures { result ≡ length (text_of (records_of table.now)) }
+{
     let mut bytes: usize = 0;
-    let mut counted = 0;
-    while counted < lines {
-        let line = line_at(table.speed_count, table.job_count, counted);
-        let row = match line {
-            LineRecord::Clock => clock_row(table.clock, table.budget),
-            LineRecord::Speed(n) => speed_row(speeds[n]),
-            LineRecord::Job(n) => job_row(number, cycles, worth, critical, termination, request, n),
-            LineRecord::Hold(n) => hold_row(holds[n]),
-        };
-        let fields = row.numbers;
-        let count = row.count;
-        bytes += digits::line_length(&fields[..count]);
-        counted += 1;
+    for counted in 0..line_count(table) {
+        bytes += digits::line_length(row_at(table, counted).filled());
     }
     bytes
 }
 
 // Writes the text at the front of the buffer, and hands back its length.
-fn put_text<'a>(
-    table: Table,
-    number: &'a [u64; MOST_JOBS],
-    cycles: &'a [u64; MOST_JOBS],
-    worth: &'a [u64; MOST_JOBS],
-    critical: &'a [u64; MOST_JOBS],
-    termination: &'a [u64; MOST_JOBS],
-    request: &'a [u64; MOST_JOBS],
-    out: &mut [u8],
-) -> usize
-    requires { Checked table × ColumnsOf (records_of table).jobs (besides number.now cycles.now worth.now critical.now termination.now request.now) × (length (text_of (records_of table)) ≤ length out.old) }
-    ensures { (result ≡ length (text_of (records_of table)))
-        × (out.new ≡ put out.old 0 (text_of (records_of table))) }
+fn put_text(table: &Table, out: &mut [u8]) -> usize
+    requires { Checked table.now × (length (text_of (records_of table.now)) ≤ length out.old) }
+    ensures { (result ≡ length (text_of (records_of table.now)))
+        × (out.new ≡ put out.old 0 (text_of (records_of table.now))) }
 {
-    let lines = line_count(table);
-    let speeds = table.speeds;
-    let holds = table.holds;
     let mut next = 0;
-    let mut written = 0;
-    while written < lines {
-        let line = line_at(table.speed_count, table.job_count, written);
-        let row = match line {
-            LineRecord::Clock => clock_row(table.clock, table.budget),
-            LineRecord::Speed(n) => speed_row(speeds[n]),
-            LineRecord::Job(n) => job_row(number, cycles, worth, critical, termination, request, n),
-            LineRecord::Hold(n) => hold_row(holds[n]),
-        };
-        let fields = row.numbers;
-        let count = row.count;
-        next = digits::put_line(out, next, row.letter, &fields[..count]);
-        written += 1;
+    for written in 0..line_count(table) {
+        let row = row_at(table, written);
+        next = digits::put_line(out, next, row.letter, row.filled());
     }
     next
 }
 
 // Writes a table's text to the front of a lent buffer and answers its length; or else changes nothing and answers the first
 // refusal of its records, or that there is no room.
-pub fn write(table: Table, out: &mut [u8]) -> Written
+pub fn write(table: Table, out: &mut [u8]) -> Result<usize, Refused>
     ensures { WrittenAs table out.old out.new result }
 {
-    let mut number = [0; MOST_JOBS];
-    let mut cycles = [0; MOST_JOBS];
-    let mut worth = [0; MOST_JOBS];
-    let mut critical = [0; MOST_JOBS];
-    let mut termination = [0; MOST_JOBS];
-    let mut request = [0; MOST_JOBS];
-    let verdict = check_table(
-        &mut number,
-        &mut cycles,
-        &mut worth,
-        &mut critical,
-        &mut termination,
-        &mut request,
-        table,
-    );
-    if let Verdict::Refused(why, line) = verdict {
-        return Written::Refused(why, line);
+    check_table(&mut Columns::new(), &table)?;
+    if out.len() < text_length(&table) {
+        return Err(Refusal::Room.at(0));
     }
-    let bytes = text_length(
-        table,
-        &number,
-        &cycles,
-        &worth,
-        &critical,
-        &termination,
-        &request,
-    );
-    if out.len() < bytes {
-        return Written::Refused(Refusal::Room, 0);
-    }
-    let length = put_text(
-        table,
-        &number,
-        &cycles,
-        &worth,
-        &critical,
-        &termination,
-        &request,
-        out,
-    );
-    Written::Length(length)
+    Ok(put_text(&table, out))
 }

@@ -1,12 +1,12 @@
 -- `chains::deadlines` meets its contract. At the place of each job passed stands its deadline, and 0 beyond them: what is stored
--- so far is the column of the jobs passed. The measure is how many places are left. Assumes nothing.
+-- so far is the column of the jobs passed. Assumes nothing.
 use mathlib.Core.List.{List, [], ◌∷◌}
 use mathlib.Core.Path.{◌≡◌, refl, ap, ◌∙◌}
 use Prim.Native.Nat.{ℕ, zero, suc, ◌+◌, ◌*◌, ◌-◌, ◌≤◌, ◌<◌}
 use native.Mathlib.Nat.{mul-le-mul, zero-mul}
 use native.Mathlib.Omega.{arith}
 use lib.ListN.{get_or, length-set, set, take}
-use lib.Seq.{take_all}
+use lib.Seq.{get_or-take, length-take-le, take_all}
 use Rattle.chains.specs.Promises.{most_deadline}
 use Rattle.columns.proofs.Stored.{Filled, nothing_filled, one_more_filled, zeros_at}
 use Rattle.columns.specs.Columns.{AtMost, Column, TermsOf}
@@ -58,18 +58,15 @@ loop-i-init c =
       λ t terms_of termination_of. nothing_filled (deadlineIn t) (nobody's-deadline t.clock (top_of t).mhz),
     )
 
-pub deadline-cycles-requires : goal.deadline-cycles-requires
-deadline-cycles-requires c =
-    let start = c in
-    (start.requires.2.mhz, start.requires.1 c.loop-i.i)
-
 pub loop-i-preserved : goal.loop-i-preserved
 loop-i-preserved c =
     let start = c in
     let loop = c.loop-i in
-    let is = c.deadline-cycles.ensures in (
-      length-set loop.deadline_at loop.i c.deadline-cycles.result ∙ loop.invariant.0,
-      stored-at-most most_deadline loop.deadline_at loop.i c.deadline-cycles.result loop.invariant.1
+    let inside : loop.i < start.args.terms.job_count = omega (arith, length-take-le start.args.terms.job_count start.args.termination.now) in
+    let is : c.deadline.result ≡ cycles_by start.args.terms.clock start.args.terms.mhz (get_or start.args.termination.now loop.i 0) =
+    c.deadline.ensures ∙ rw (get_or-take start.args.terms.job_count start.args.termination.now loop.i 0 inside) in (
+      length-set loop.deadline_at loop.i c.deadline.result ∙ loop.invariant.0,
+      stored-at-most most_deadline loop.deadline_at loop.i c.deadline.result loop.invariant.1
           (rw is (by-end-at-most start.args.terms.clock start.args.terms.mhz
           (get_or start.args.termination.now loop.i 0) start.requires.2.mhz (start.requires.1 loop.i))),
       λ t terms_of termination_of. rw is

@@ -1,5 +1,5 @@
 use mathlib.Core.Path.{◌≡◌}
-use Prim.Native.Nat.{ℕ, ◌-◌}
+use Prim.Native.Nat.{ℕ}
 use lib.ListN.{length, take}
 use Rattle.chains.specs.Promises.{most_deadline}
 use Rattle.columns.proofs.Stored.{Filled}
@@ -19,6 +19,3 @@ invariant-loop-i l = (length l.deadline_at ≡ most_jobs)
     × AtMost most_deadline l.deadline_at
     × ((t : Records) → TermsOf t l.terms → Column (λ j. j.termination) t.jobs l.termination
     → Filled (deadlineIn t) (take l.i t.jobs) l.deadline_at)
-
-abbrev pub decreases-loop-i : goal.decreases-loop-i
-decreases-loop-i l = most_jobs - l.i

@@ -1,76 +1,70 @@
 -- `chains::holders` meets its contract. At each resource stands the place of the holder that the H lines passed name; the
--- line before them stores its own over it. The measure is how many lines are left. Assumes nothing.
-use mathlib.Core.List.{List, [], ◌∷◌}
-use mathlib.Core.Path.{◌≡◌, refl, ◌∙◌}
-use Prim.Native.Nat.{ℕ, suc, ◌-◌, ◌≤◌, ◌<◌}
+-- line before them stores its own over it. Assumes nothing.
+use mathlib.Core.List.{List, [], ◌∷◌, ◌++◌}
+use mathlib.Core.Path.{◌≡◌, refl, sym, ◌∙◌}
+use Prim.Native.Nat.{ℕ, ◌≤◌}
 use native.Mathlib.Omega.{arith}
-use borrow.Author.Rules.{rules}
-use lib.ListN.{drop, drop_of_length-le, get_or, length, length-set, take}
-use lib.Seq.{drop-cons, get_or-take, length-take-le}
+use lib.ListN.{length, length-set, replicate, set}
+use Rattle.std.proofs.Common.{append_assoc, append-nil}
+use Rattle.std.proofs.lemmas.List.Elements.{All-head, All-tail}
+use Rattle.std.specs.List.{All, push}
 use Rattle.chains.proofs.Holding.{no_line, one_line_more}
-use Rattle.rules.specs.TableText.{most_holds, no_hold}
+use Rattle.chains.proofs.holders.Invariants.{Passed}
+use Rattle.chains.specs.Promises.{Holdable, Holders, PlaceOf}
+use Rattle.chains.specs.Waits.{most_resources}
+use Rattle.rules.specs.TableText.{most_holds, most_jobs}
 use Rattle.rules.specs.declared.Hold.{Hold}
-use Rattle.chains.proofs.holders.Goals.{Start}
 use Rattle.chains.proofs.holders.Goals as goal
 
-module _ (holds : List Hold) (count : ℕ) (l : count ≤ length holds) where
-  no_line_left : drop count (take count holds) ≡ []
-  no_line_left = drop_of_length-le (take count holds) {i = count} (omega (arith, length-take-le count holds l))
+-- one among H lines whose resources are small
+small_there : (left passed : List Hold) (h : Hold) → All (λ g. g.resource ≤ most_holds) (left ++ h ∷ passed)
+    → h.resource ≤ most_holds
+small_there [] passed h all = All-head (λ g. g.resource ≤ most_holds) h passed all
+small_there (g ∷ left) passed h all =
+    small_there left passed h (All-tail (λ g. g.resource ≤ most_holds) g (left ++ h ∷ passed) all)
 
-  line_before : (i : ℕ) → 0 < i → i ≤ count
-      → drop (i - 1) (take count holds) ≡ get_or holds (i - 1) no_hold ∷ drop i (take count holds)
-  line_before i h m =
-      let e : suc (i - 1) ≡ i = omega arith in
-      drop-cons (take count holds) (i - 1) no_hold (omega (arith, length-take-le count holds l))
-      ∙ rw (e, get_or-take count holds (i - 1) no_hold (omega arith))
+module _ (holds : List Hold) (numbers : List ℕ) (holdable : Holdable holds numbers) where
+  none_passed : Passed holds numbers holds (replicate most_resources most_jobs)
+  none_passed = record {
+    passed = [];
+    all = append-nil holds;
+    long = refl;
+    holders = λ js long rising column. no_line js (omega (arith, holdable.few_jobs));
+  }
 
-places-long : (c : Start) → length c.args.holds ≡ most_holds
-places-long c = search rules
+  module _ (left : List Hold) (h : Hold) (holder-at : List ℕ) (so-far : Passed holds numbers (push left h) holder-at) where
+    all_with_it : left ++ (h ∷ so-far.passed) ≡ holds
+    all_with_it = sym (append_assoc left (h ∷ []) so-far.passed) ∙ so-far.all
 
-pub loop-i-init : goal.loop-i-init
-loop-i-init c =
-    rw c.requires.0 (
-      omega arith,
-      refl,
-      λ js long rising number_of_lem.
-          rw (no_line_left c.args.holds c.args.hold_count (omega (arith, places-long (goal.at.loop-i-init c).Start, c.requires.1.few_holds)))
-          (no_line js (omega (arith, c.requires.1.few_jobs))),
-    )
+    its_resource : h.resource ≤ most_holds
+    its_resource = small_there left so-far.passed h (rw all_with_it holdable.resources_small)
 
-pub offset_bounds-holder_at-resource : goal.offset_bounds-holder_at-resource
-offset_bounds-holder_at-resource c =
-    let start = c in
-    omega (arith, start.requires.1.resources_small (c.loop-i.i - 1) (omega arith))
+    one_more_passed : (p : ℕ) → PlaceOf numbers h.holder p → Passed holds numbers left (set holder-at h.resource p)
+    one_more_passed p is = record {
+      passed = h ∷ so-far.passed;
+      all = all_with_it;
+      long = length-set holder-at h.resource p ∙ so-far.long;
+      holders = λ js long rising column.
+          one_line_more js h so-far.passed holder-at p so-far.long its_resource (is.place js long rising column h refl)
+          (is.place_or_nobody js long) (so-far.holders js long rising column);
+    }
 
-pub bounds-holder_at-resource : goal.bounds-holder_at-resource
-bounds-holder_at-resource c =
-    let start = c in
-    omega (arith, start.requires.1.resources_small (c.loop-i.i - 1) (omega arith))
+  all_passed : (left : List Hold) (holder-at : List ℕ) → length left ≡ 0 → Passed holds numbers left holder-at
+      → Holders holds numbers holder-at
+  all_passed [] holder-at e so-far = record { holders = rw so-far.all at so-far.holders }
+  all_passed (h ∷ left) holder-at e so-far = absurd (omega arith)
 
-pub loop-i-preserved : goal.loop-i-preserved
-loop-i-preserved c =
-    let start = c in
-    let loop = c.loop-i in
-    let hold = get_or start.args.holds (loop.i - 1) no_hold in
-    let small = start.requires.1.resources_small (loop.i - 1) (omega arith) in (
-      omega arith,
-      rw length-set loop.invariant.1,
-      λ js long rising number_of_lem.
-          rw
-          (line_before start.args.holds start.args.hold_count
-          (omega (arith, places-long (goal.at.loop-i-preserved start).Start, start.requires.1.few_holds)) loop.i (omega arith) (omega arith))
-          (one_line_more js hold (drop loop.i (take start.args.hold_count start.args.holds)) loop.holder_at
-          c.place_of-place.result loop.invariant.1 small
-          (c.place_of-place.ensures.place js long rising number_of_lem hold refl) (c.place_of-place.ensures.place_or_nobody js long)
-          (loop.invariant.2 js long rising number_of_lem)),
-    )
+pub loop-hold-init : goal.loop-hold-init
+loop-hold-init c =
+    let rest : c.into_iter-hold-iterator.result.iter.rest.now ≡ c.args.holds.now = cc in
+    rw (rest, c.requires.0) (none_passed c.args.holds.now c.args.numbers.now c.requires.1)
+
+pub loop-hold-preserved : goal.loop-hold-preserved
+loop-hold-preserved c =
+    one_more_passed c.args.holds.now c.args.numbers.now c.requires.1 c.next.new.self.iter.rest.now c.in-Some.hold.now
+    c.loop-hold.holder_at (rw c.in-Some.ensures.steps at c.loop-hold.invariant) c.place_of-place.result c.place_of-place.ensures
 
 pub returns : goal.returns
 returns c =
-    let start = c in
-    let loop = c.loop-i in
-    let none : loop.i ≡ 0 = omega arith in
-    record {
-      holders = λ js long rising number_of_lem.
-          rw none at (loop.invariant.2 js long rising number_of_lem);
-    }
+    all_passed c.args.holds.now c.args.numbers.now c.requires.1 c.loop-hold.hold-iterator.iter.rest.now c.loop-hold.holder_at
+    c.in-None.ensures.steps.0 c.loop-hold.invariant

@@ -1,32 +1,30 @@
 -- `chains::place_of` meets its contract: the place found is that of the job of the number, and `most_jobs` is nobody's. Assumes
 -- nothing.
-use mathlib.Core.Logic.{inl, inr}
-use mathlib.Core.Path.{refl}
+use Rattle.std.proofs.Common.{rules}
+use mathlib.Core.Path.{◌≡◌}
+use Prim.Native.Nat.{ℕ, ◌≤◌}
+use lib.ListN.{length}
 use native.Mathlib.Omega.{arith}
-use Rattle.chains.proofs.Holding.{holder_nowhere, holder_there}
+use Rattle.std.specs.Prelude.{None, Some, Option, List, MatchOption}
+use Rattle.chains.proofs.Holding.{found_or_nobody, holder_found, place_found}
+use Rattle.chains.specs.Promises.{PlaceOf}
 use Rattle.columns.specs.LookUp.{StandsAt}
-use Rattle.columns.specs.declared.Found.{Found}
+use Rattle.rules.specs.TableText.{most_jobs}
 use Rattle.chains.proofs.place_of.Goals as goal
 
-pub returns-in_default : goal.returns-in_default
-returns-in_default c =
-    let args = c.args in
-    let nowhere : StandsAt args.numbers.now args.count args.number Found.Nowhere =
-    rw c.in_default.is at c.look_up-found.ensures in
-    record {
-      place = λ js long rising number_of_lem h holds.
-          holder_nowhere js args.numbers.now rising number_of_lem h (omega arith) (rw (long, holds) nowhere);
-      place_or_nobody = λ js long. inr refl;
-    }
+is_found : (o : Option ℕ) (r : ℕ) → MatchOption o (r ≡ most_jobs) (λ x. r ≡ x) → r ≡ place_found o
+is_found (Some place) r e = e
+is_found None r e = e
+
+place-of : (numbers : List ℕ) (number r : ℕ) (o : Option ℕ) → length numbers ≤ most_jobs → StandsAt numbers number o
+    → r ≡ place_found o → PlaceOf numbers number r
+place-of numbers number r o few stands is = record {
+  place = λ js long rising number_of_lem h e.
+      rw is (holder_found js numbers long (omega arith) rising number_of_lem h o (rw e stands));
+  place_or_nobody = λ js long. rw is (found_or_nobody js numbers long (omega arith) number o stands);
+}
 
 pub returns : goal.returns
 returns c =
-    let args = c.args in
-    let place = c.in-At.place in
-    let there : StandsAt args.numbers.now args.count args.number (Found.At place) =
-    rw c.in-At.is at c.look_up-found.ensures in
-    record {
-      place = λ js long rising number_of_lem h holds.
-          holder_there js args.numbers.now rising number_of_lem h place (rw (long, holds) there);
-      place_or_nobody = λ js long. inl (omega arith);
-    }
+    place-of c.args.numbers.now c.args.number c.map_or.result c.look_up.result c.requires c.look_up.ensures
+    (is_found c.look_up.result c.map_or.result (search rules))

@@ -17,7 +17,9 @@ use Rattle.rules.specs.Plan.{asks_for, holder_in, waits_for}
 use Rattle.rules.specs.TableText.{most_holds, most_jobs, no_job}
 use Rattle.rules.specs.declared.Hold.{Hold}
 use Rattle.rules.specs.declared.Job.{Job}
+use Rattle.laws.proofs.Fates.{none_at, some_at}
 use Rattle.chains.proofs.waits_for.Goals as goal
+use Rattle.chains.proofs.waits_for.Goals.{then-holder-ge-NOBODY-via-then-holder-ge-NOBODY, then-holder-ge-NOBODY-via-else-holder-ge-NOBODY+then-is_some}
 
 module _ (place : ℕ) (requests holder-at fates : List ℕ) (small : get_or requests place 0 ≤ most_holds) where
   abbrev resource : ℕ
@@ -70,23 +72,16 @@ module _ (place : ℕ) (requests holder-at fates : List ℕ) (small : get_or req
     place_or_nobody = λ js holds at. at.place_or_nobody resource small;
   }
 
-pub offset_bounds-holder_at-resource : goal.offset_bounds-holder_at-resource
-offset_bounds-holder_at-resource c = omega (arith, c.requires.1 c.args.place)
-
-pub bounds-holder_at-resource : goal.bounds-holder_at-resource
-bounds-holder_at-resource c = omega (arith, c.requires.1 c.args.place)
-
 pub returns-then-holder-ge-NOBODY : goal.returns-then-holder-ge-NOBODY
 returns-then-holder-ge-NOBODY c =
-    let start = c in
-    not-held _ _ _ _ (start.requires.1 start.args.place) c.if-holder-ge-NOBODY.true
-
-pub returns-then-fate-ne-NO_FATE : goal.returns-then-fate-ne-NO_FATE
-returns-then-fate-ne-NO_FATE c =
-    let start = c in
-    held-by-one-taken-out _ _ _ _ (start.requires.1 start.args.place) c.if-holder-ge-NOBODY.false c.if-fate-ne-NO_FATE.true
+    elim c.then-holder-ge-NOBODY.branch [
+      | then-holder-ge-NOBODY-via-then-holder-ge-NOBODY w ↦ not-held _ _ _ _ (c.requires.1 c.args.place) w.if-holder-ge-NOBODY.true
+      | then-holder-ge-NOBODY-via-else-holder-ge-NOBODY+then-is_some w ↦
+          held-by-one-taken-out _ _ _ _ (c.requires.1 c.args.place) w.if-holder-ge-NOBODY.false
+          (some_at c.args.fates.now _ (sym w.is_some.ensures ∙ w.if-is_some.true))
+    ]
 
 pub returns : goal.returns
 returns c =
-    let start = c in
-    held-by-one-that-remains _ _ _ _ (start.requires.1 start.args.place) c.if-holder-ge-NOBODY.false c.if-fate-ne-NO_FATE.false
+    held-by-one-that-remains _ _ _ _ (c.requires.1 c.args.place) c.if-holder-ge-NOBODY.false
+    (none_at c.args.fates.now _ (sym c.is_some.ensures ∙ c.if-is_some.false))

@@ -14,8 +14,8 @@ unfolding supplied_costs
 returns-then-model-lt1 c =
     let model = c.args.model in
     elim c.then-model-lt1.branch [
-      | then-model-lt1-via-then-model-lt1 below ↦ rw (within_below 1 3 model below.if-model-lt1.true)
-      | then-model-lt1-via-else-model-lt1+then-model-gt3 above ↦ rw (within_above 1 3 model above.if-model-gt3.true)
+      | then-model-lt1-via-then-model-lt1 below ↦ rw (c.at.ensures, within_below 1 3 model below.if-model-lt1.true)
+      | then-model-lt1-via-else-model-lt1+then-model-gt3 above ↦ rw (c.at.ensures, within_above 1 3 model above.if-model-gt3.true)
     ]
 
 to-3 : (c : Else-model-gt3) → c.args.model ≤ 3

@@ -1,19 +1,13 @@
 -- `cuddlelamb::list_whole` meets its contract: the buffer has room for whatever is asked for, so that `list_asked` never refuses.
 -- Assumes nothing.
 use Rattle.std.proofs.Common.{◌≤◌, length, rules}
-use Rattle.cuddlelamb.proofs.Fronts.{lines_fit, listed_whole, never_refused}
+use Rattle.cuddlelamb.proofs.Fronts.{lines_fit, listed_whole}
 use Rattle.cuddlelamb.proofs.list_whole.Goals as goal
 use Rattle.roomlines.proofs.LongestRooms.{most_room_bytes}
 
-pub returns-in-Length : goal.returns-in-Length
-returns-in-Length c =
+pub returns : goal.returns
+returns c =
     let room : most_room_bytes ≤ length c.args.buffer.now = search rules in
-    listed_whole _ c.args.buffer.now (lines_fit c.args.text.now c.args.rooms c.args.asked _ room)
-    c.list_asked.result _ c.in-Length.count c.in-Length.is c.list_asked.ensures
-
-pub returns-in-Refused : goal.returns-in-Refused
-returns-in-Refused c =
-    let room : most_room_bytes ≤ length c.args.buffer.now = search rules in
-    absurd
-    (never_refused _ c.args.buffer.now (lines_fit c.args.text.now c.args.rooms c.args.asked _ room)
-    c.list_asked.result _ _ _ c.in-Refused.is c.list_asked.ensures)
+    rw c.unwrap_or.ensures
+    (listed_whole _ c.args.buffer.now (lines_fit c.args.text.now c.args.rooms c.args.asked _ room)
+    c.list_asked.result _ c.list_asked.ensures)

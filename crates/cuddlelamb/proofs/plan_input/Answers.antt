@@ -9,5 +9,5 @@ pub returns : goal.returns
 returns g c =
     let told = c.print_asked-printed in
     let same : c.match-printed.printed ≡ told.result = search rules in
-    planned _ _ c.read_input.new.buffer c.in-Bytes.read MOST_READ (search rules) c.in-Bytes.ensures.taken c.args.rooms c.args.asked _ _ told.result
+    planned _ _ _ c.read_input.new.buffer c.in-Ok.read MOST_READ (search rules) c.in-Ok.ensures.taken c.args.rooms c.args.asked _ _ told.result
     told.ensures _ (c.is_ok.ensures.value ∙ ap is_ok same)

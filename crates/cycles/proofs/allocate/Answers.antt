@@ -15,17 +15,18 @@ in-range : (c : Else-not-in_range) → let asked = c.args in
 in-range c = sym c.in_range.ensures ∙ not-false _ c.if-not-in_range.false-raw
 
 pub returns-then-not-in_range : goal.returns-then-not-in_range
-returns-then-not-in_range c = sym ((refused_outside _ _ _).1 (sym c.in_range.ensures ∙ not-true _ c.if-not-in_range.true-raw))
+returns-then-not-in_range c =
+    rw c.at.ensures (sym ((refused_outside _ _ _).1 (sym c.in_range.ensures ∙ not-true _ c.if-not-in_range.true-raw)))
 
 pub enough-requires : goal.enough-requires
 enough-requires c = let ranges = in_ranges _ _ _ (in-range (goal.at.enough-requires c).Else-not-in_range) in (in-range (goal.at.enough-requires c).Else-not-in_range, omega arith, omega arith)
 
 pub returns-then-not-enough : goal.returns-then-not-enough
 returns-then-not-enough c =
-    sym ((refused_where_none_enough _ _ _).1 (
+    rw c.at-then-not-enough.ensures (sym ((refused_where_none_enough _ _ _).1 (
       in-range (goal.at.returns-then-not-enough c).Else-not-in_range,
       λ d l h. not_enough_below _ _ _ d most_cycles h (sym c.enough.ensures ∙ not-true _ c.if-not-enough.true-raw),
-    ))
+    )))
 
 pub least-requires : goal.least-requires
 least-requires c = (in-range (goal.at.least-requires c).Else-not-in_range, sym c.enough.ensures ∙ not-false _ c.if-not-enough.false-raw)

@@ -1,12 +1,9 @@
 -- `cycles::least` meets its contract. Fewer cycles than `low` are not enough, `high` are: the middle settles all on one
 -- side of it, since more than enough is enough. Where `low` and `high` meet, they are the least. The measure is
 -- `high - low`. Assumes nothing.
-use mathlib.Core.Bool.{true}
 use mathlib.Core.Path.{sym, ◌∙◌}
-use Prim.Native.Nat.{◌-◌}
 use native.Mathlib.Omega.{arith}
 use Rattle.laws.proofs.Allocation.{answer_is_least, enough_above, in_ranges, not_enough_below}
-use Rattle.rules.specs.Cycles.{enough}
 use Rattle.cycles.proofs.least.Goals as goal
 
 pub loop-low-init : goal.loop-low-init

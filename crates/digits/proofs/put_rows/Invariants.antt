@@ -1,11 +1,13 @@
-use Prim.Native.Nat.{◌-◌, ◌≤◌}
-use lib.ListN.{length}
-use Rattle.digits.proofs.LinesOfRows.{RowsSoFar}
-use Rattle.rules.specs.TableText.{line_text}
+use mathlib.Core.Path.{◌≡◌}
+use Rattle.digits.proofs.LinesOfRows.{lines_of_rows}
+use Rattle.digits.proofs.PutSoFar.{PutSoFar}
+use Rattle.digits.specs.Rows.{line_of}
 use Rattle.digits.proofs.put_rows.Given as goal
 
-abbrev pub invariant-loop-written : goal.invariant-loop-written
-invariant-loop-written l = (l.written ≤ length l.numbers) × RowsSoFar (line_text l.letter) l.fields l.numbers l.initial.out l.initial.next l.written l.out l.next
-
-abbrev pub decreases-loop-written : goal.decreases-loop-written
-decreases-loop-written l = length l.numbers - l.written
+abbrev pub invariant-loop-row : goal.invariant-loop-row
+invariant-loop-row l = record {
+  size : l.row-iterator.size ≡ l.fields;
+  same_letter : l.fn.letter ≡ l.letter;
+  so_far : PutSoFar (lines_of_rows (line_of l.fn.letter) l.fields l.numbers) l.initial.out l.initial.next
+      (lines_of_rows (line_of l.fn.letter) l.fields l.row-iterator.rest.now) l.out l.next;
+}

@@ -16,9 +16,6 @@ counted c =
     let start = c in
     c.rows_length.ensures 0 ∙ tab_rows_shorter 0 start.args.fields start.requires.0 start.args.numbers.now
 
-pub overflow_mul-result : goal.overflow_mul-result
-overflow_mul-result c = omega (arith, counted (goal.at.overflow_mul-result c).After-rows_length)
-
 pub overflow_sub-result : goal.overflow_sub-result
 overflow_sub-result c = omega (arith, counted (goal.at.overflow_sub-result c).After-rows_length)
 

@@ -4,11 +4,4 @@ use Rattle.remaining.proofs.Staging.{steps_1_and_2}
 use Rattle.remaining.proofs.take_out.Goals as goal
 
 pub returns : goal.returns
-returns c =
-    let ringed = c in
-    let looked-up = ringed in
-    let late = looked-up in (
-      ringed.ring_fates.ensures.0,
-      steps_1_and_2 late.late_fates.ensures looked-up.waits_column.ensures ringed.ring_fates.ensures.1
-          c.waits_column-2.ensures,
-    )
+returns c = steps_1_and_2 c.late_fates.ensures c.waits_column.ensures c.ring_fates.ensures c.waits_column-2.ensures

@@ -1,11 +1,11 @@
 -- `remaining::waits_column` meets its contract. At the place of each job passed stands the place of the one that it waits
--- for, or nobody's. The measure is how many places are left. Assumes nothing.
+-- for, or nobody's. Assumes nothing.
 use mathlib.Core.List.{List}
 use mathlib.Core.Path.{◌≡◌}
 use Prim.Native.Nat.{ℕ, ◌≤◌}
 use native.Mathlib.Omega.{arith}
 use lib.ListN.{length}
-use Rattle.remaining.proofs.FilledTo.{RightBelow, filled_below, nothing_filled, one_more_filled}
+use Rattle.remaining.proofs.FilledTo.{RightBelow, filled_below, one_more_filled}
 use Rattle.remaining.specs.Promises.{WaitsColumn}
 use Rattle.rules.specs.TableText.{most_jobs}
 use Rattle.remaining.proofs.waits_column.Invariants.{WaitsAt}
@@ -22,20 +22,13 @@ all-wait request holder-at fates count waits few whole right = record {
   };
 }
 
-pub loop-i-init : goal.loop-i-init
-loop-i-init c = nothing_filled _ _ c.requires.0
-
-pub waits_for-holder-requires : goal.waits_for-holder-requires
-waits_for-holder-requires c = (omega arith, c.requires.2)
-
 pub loop-i-preserved : goal.loop-i-preserved
 loop-i-preserved c =
     let loop = c.loop-i in
-    one_more_filled _ loop.waits loop.i _ (omega arith) loop.invariant c.waits_for-holder.ensures
+    one_more_filled _ loop.waits loop.i _ (omega arith) loop.invariant c.waits_for.ensures
 
 pub returns : goal.returns
 returns c =
-    let start = c in
     let loop = c.loop-i in
-    all-wait _ _ _ _ loop.waits start.requires.1 loop.invariant.whole
-    (filled_below _ loop.waits loop.i start.args.job_count (omega arith) loop.invariant)
+    all-wait _ _ _ _ loop.waits c.requires.0 loop.invariant.whole
+    (filled_below _ loop.waits loop.i c.args.job_count (omega arith) loop.invariant)

@@ -1,112 +1,90 @@
--- `speeds::first_in_time` meets its contract: at each speed before `low` some job ends late, from `high` on none does, and
--- each speed tried lies between and becomes one of the two. Where they meet is the first speed in time. The measure is
--- `high - low`. Assumes nothing.
-use mathlib.Core.Bool.{true, false}
-use mathlib.Core.Path.{sym, ap, ◌∙◌}
-use Prim.Native.Nat.{◌-◌, ◌≤◌, ◌<◌}
+-- `speeds::first_in_time` meets its contract. Where the lowest speed is in time, all are. Else the speeds late stand in front of those
+-- in time, so that std's search finds where these begin. Assumes nothing.
+use mathlib.Core.Bool.{Bool, true, false, not, true≢false}
+use mathlib.Core.List.{List}
+use mathlib.Core.Path.{◌≡◌, refl, sym, ap, ◌∙◌}
+use Prim.Native.Nat.{ℕ, ◌≤◌, ◌<◌}
 use native.Mathlib.Omega.{arith}
-use lib.ListN.{get_or}
+use lib.ListN.{get_or, length}
+use Rattle.std.proofs.Common.{min, of_calls, rules}
+use Rattle.std.proofs.lemmas.Fn.{always_returns_same}
+use Rattle.std.proofs.lemmas.List.{get_or_default}
+use Rattle.std.specs.List.Sorted.{IsPartitionPoint, IsPartitionedBy}
 use Rattle.columns.specs.Columns.{jobs_at}
 use Rattle.rules.specs.Plan.{in_time}
-use Rattle.rules.specs.TableText.{no_speed}
-use Rattle.speeds.proofs.first_in_time.Invariants.{Between, Told, lowered, raised}
-use Rattle.speeds.proofs.first_in_time.Goals.{In-loop-low, Joined-in_time, else-in_time, then-in_time}
+use Rattle.rules.specs.TableText.{Records, most_mhz, no_speed}
+use Rattle.rules.specs.Valid.{Valid}
+use Rattle.rules.specs.declared.Job.{Job}
+use Rattle.rules.specs.declared.Speed.{Speed}
+use Rattle.speeds.proofs.Searched.{in_time_above, late_below}
+use Rattle.speeds.specs.Promises.{SpeedsOf}
+use Rattle.speeds.proofs.first_in_time.Goals.{After-partition_point}
 use Rattle.speeds.proofs.first_in_time.Goals as goal
 
-pub loop-low-init : goal.loop-low-init
-loop-low-init c = (
-  record {
-    ordered = omega arith;
-    inside = omega arith;
-    late_before = λ t v of i l. absurd (omega arith);
-    in_time_from = λ t v of i l h. absurd (omega arith);
-  },
-  λ l. omega arith,
-  λ l. l,
-)
+off : (b : Bool) → not b ≡ true → b ≡ false
+off true h = absurd (true≢false (sym h))
+off false h = refl
 
--- the speed that is tried is one of the table's
-there : (c : In-loop-low) → c.loop-low.tried < c.args.speed_count
-there c = omega (arith, c.loop-low.invariant.2 c.loop-low-test.true, c.loop-low.invariant.0.inside)
+on : (b : Bool) → not b ≡ false → b ≡ true
+on true h = refl
+on false h = absurd (true≢false h)
 
-pub offset_bounds-speeds-tried : goal.offset_bounds-speeds-tried
-offset_bounds-speeds-tried c = omega (arith, there (goal.at.offset_bounds-speeds-tried c).In-loop-low, c.requires.in-range.few)
+module _ (t : Records) (js : List Job) where
+  -- what the search asks of a speed
+  abbrev late : Speed → Bool
+  late f = not (in_time t.clock (min f.mhz most_mhz) js)
 
-pub bounds-speeds-tried : goal.bounds-speeds-tried
-bounds-speeds-tried c = omega (arith, there (goal.at.bounds-speeds-tried c).In-loop-low, c.requires.in-range.few)
+  module _ (valid : Valid t) (speeds : List Speed) (of : speeds ≡ t.speeds)
+      (small : (i : ℕ) → i < length speeds → (get_or speeds i no_speed).mhz ≤ most_mhz) where
+    -- of a speed of the table, the rules' test
+    late_is : (i : ℕ) (d : Speed) → i < length speeds
+        → late (get_or speeds i d) ≡ not (in_time t.clock (get_or speeds i no_speed).mhz js)
+    late_is i d h =
+        let here : get_or speeds i d ≡ get_or speeds i no_speed = get_or_default speeds i d no_speed h in
+        let slow : min (get_or speeds i no_speed).mhz most_mhz ≡ (get_or speeds i no_speed).mhz = omega (arith, small i h) in
+        ap late here ∙ ap (λ mhz. not (in_time t.clock mhz js)) slow
 
-pub in_time-requires : goal.in_time-requires
-in_time-requires c =
-    let at-loop = c in
-    let pre = at-loop.requires in
-    record {
-      job-places = pre.job-places;
-      runs_small = pre.runs_small;
-      clock_small = pre.terms_small.clock;
-      mhz_small = pre.in-range.mhz at-loop.loop-low.tried (there (goal.at.in_time-requires c).In-loop-low);
-    }
+    late_first : IsPartitionedBy late speeds
+    late_first i j d l h e =
+        let there = off (in_time t.clock (get_or speeds j no_speed).mhz js) (sym (late_is j d h) ∙ e) in
+        let here = late_below t valid speeds of js i j l h there in
+        late_is i d (omega arith) ∙ ap not here
 
--- what was tested is the rules' test
-told : (c : Joined-in_time)
-    → let at-loop = c in
-    let args = at-loop.args in
-    Told args.speeds args.speed_count args.places.now args.cycles.now args.termination.now args.terms
-    at-loop.loop-low.tried c.in_time.result
-told c t of =
-    let at-loop = c in
-    let args = at-loop.args in
-    let mhz = (get_or args.speeds at-loop.loop-low.tried no_speed).mhz in
-    c.in_time.ensures.in-time t.jobs of.runs-of
-    ∙ ap (λ clock. in_time clock mhz (jobs_at t.jobs args.places.now)) of.terms_of.clock
+pub returns-then-not-is_some_and : goal.returns-then-not-is_some_and
+returns-then-not-is_some_and c = record {
+  at_most = omega arith;
+  late_before = λ t v of i l. absurd (omega arith);
+  in_time_from = λ t v of i l h.
+      let js = jobs_at t.jobs c.args.places.now in
+      let lowest : in_time t.clock (get_or c.args.speeds.now 0 no_speed).mhz js ≡ true =
+      search (rules, of_calls, of.runs-of, of.terms_of.clock) in
+      in_time_above t v c.args.speeds.now of.speeds_of js 0 i l h lowest;
+}
 
-pub overflow_add-low : goal.overflow_add-low
-overflow_add-low c = omega (arith, there (goal.at.overflow_add-low c).In-loop-low, c.requires.in-range.few)
-
--- either way what is left lies between, and is less
-narrowed : (c : Joined-in_time)
-    → let at-loop = c in
-    let args = at-loop.args in
-    Between args.speeds args.speed_count args.places.now args.cycles.now args.termination.now args.terms
-    c.if-in_time.low c.if-in_time.high
-    × (c.if-in_time.high - c.if-in_time.low < at-loop.loop-low.high - at-loop.loop-low.low)
-narrowed c =
-    let tested = c in
-    let in-loop = tested in
-    let at-loop = in-loop in
-    let start = at-loop in
-    let args = start.args in
-    let loop = at-loop.loop-low in
-    let from : loop.low ≤ loop.tried = loop.invariant.1 in-loop.loop-low-test.true in
-    let to : loop.tried < loop.high = loop.invariant.2 in-loop.loop-low-test.true in
-    elim c.if-in_time.branch [
-      | then-in_time w ↦ rw (w.low-is, w.high-is) (
-        lowered args.speeds args.speed_count args.places.now args.cycles.now args.termination.now args.terms loop.low
-            loop.high loop.tried (omega (arith, start.requires.in-range.few)) loop.invariant.0 from to
-            (λ t of. sym w.if-in_time.true ∙ told tested t of),
-        omega arith,
-      )
-      | else-in_time w ↦ rw (w.low-is, w.high-is) (
-        raised args.speeds args.speed_count args.places.now args.cycles.now args.termination.now args.terms loop.low
-            loop.high loop.tried (omega (arith, start.requires.in-range.few)) loop.invariant.0 from to
-            (λ t of. sym w.if-in_time.false ∙ told tested t of),
-        omega arith,
-      )
-    ]
-
-pub overflow_sub-tried : goal.overflow_sub-tried
-overflow_sub-tried c = omega (arith, (narrowed (goal.at.overflow_sub-tried c).Joined-in_time).0.ordered)
-
-pub loop-low-smaller : goal.loop-low-smaller
-loop-low-smaller c = (narrowed (goal.at.loop-low-smaller c).Joined-in_time).1
-
-pub loop-low-preserved : goal.loop-low-preserved
-loop-low-preserved c = ((narrowed (goal.at.loop-low-preserved c).Joined-in_time).0, λ l. omega arith, λ l. omega arith)
+-- where the speeds in time begin
+found : (c : After-partition_point) (t : Records) → Valid t
+    → SpeedsOf t c.args.speeds.now c.args.jobs.now.cycles c.args.jobs.now.termination c.args.terms
+    → let test = late t (jobs_at t.jobs c.args.places.now) in
+    IsPartitionPoint (λ f. test f ≡ true) (λ f. test f ≡ false) c.args.speeds.now c.partition_point.result
+found c t v of =
+    let js = jobs_at t.jobs c.args.places.now in
+    c.partition_point.ensures.partitioned (late t js)
+    (always_returns_same _ _ _ (λ a r f k. search (rules, of_calls, of.runs-of, of.terms_of.clock)))
+    (late_first t js v c.args.speeds.now of.speeds_of c.requires.in-range.mhz)
 
 pub returns : goal.returns
 returns c =
-    let b = c.loop-low.invariant.0 in
+    let speeds = c.args.speeds.now in
+    let at = (goal.at.returns c).After-partition_point in
     record {
-      at_most = omega (arith, b.ordered, b.inside);
-      late_before = b.late_before;
-      in_time_from = λ t v of i l h. b.in_time_from t v of i (omega (arith, b.ordered)) h;
+      at_most = c.partition_point.ensures.bound;
+      late_before = λ t v of i l.
+          let js = jobs_at t.jobs c.args.places.now in
+          off (in_time t.clock (get_or speeds i no_speed).mhz js)
+          (sym (late_is t js v speeds of.speeds_of c.requires.in-range.mhz i no_speed (omega (arith, c.partition_point.ensures.bound)))
+          ∙ (found at t v of).0 i no_speed (omega arith) l);
+      in_time_from = λ t v of i l h.
+          let js = jobs_at t.jobs c.args.places.now in
+          on (in_time t.clock (get_or speeds i no_speed).mhz js)
+          (sym (late_is t js v speeds of.speeds_of c.requires.in-range.mhz i no_speed h) ∙ (found at t v of).1 i no_speed l h);
     }

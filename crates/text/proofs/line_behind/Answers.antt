@@ -1,16 +1,18 @@
 -- `text::line_behind` meets its contract: its tests are those of `line_behind`. Assumes nothing.
-use Rattle.std.proofs.Common.{le-ltb, lt-ltb, eq-eqb, ne_eqb}
-use Rattle.text.specs.Fields.{line_behind}
+use Rattle.std.proofs.Common.{◌≡◌, ℕ, ◌+◌, ◌<◌, ltb, Bool, true, false, cond, min, arith, refl, eq-eqb, ne_eqb, ltb-true, ltb-false}
+use Rattle.text.specs.Fields.{line_behind, most_line}
 use Rattle.text.proofs.line_behind.Goals as goal
 
-pub returns-then-end-ne10 : goal.returns-then-end-ne10
-unfolding line_behind
-returns-then-end-ne10 c = simp (ne_eqb _ _ c.if-end-ne10.true)
+capped : (t : Bool) (line : ℕ) → line < most_line + 1 → ltb line most_line ≡ t → min (line + 1) most_line ≡ cond t (line + 1) line
+capped true line h e = omega (arith, ltb-true line most_line e)
+capped false line h e = omega (arith, ltb-false line most_line e)
 
-pub returns-then-line-lt-MOST_LINE : goal.returns-then-line-lt-MOST_LINE
+pub returns-then-end-eq10 : goal.returns-then-end-eq10
 unfolding line_behind
-returns-then-line-lt-MOST_LINE c = simp (eq-eqb _ _ c.if-end-ne10.false, lt-ltb _ _ c.if-line-lt-MOST_LINE.true)
+returns-then-end-eq10 c =
+    rw (c.saturating_add.ensures, eq-eqb _ _ c.if-end-eq10.true)
+    (capped _ c.args.line (omega (arith, c.ranges.line.fits)) refl)
 
 pub returns : goal.returns
 unfolding line_behind
-returns c = simp (eq-eqb _ _ c.if-end-ne10.false, le-ltb _ _ c.if-line-lt-MOST_LINE.false)
+returns c = simp (ne_eqb _ _ c.if-end-eq10.false)

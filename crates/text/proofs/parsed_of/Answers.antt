@@ -24,4 +24,4 @@ pub returns-in_default : goal.returns-in_default
 unfolding letter_record
 returns-in_default c =
     let o = c.in_default.in_default-own.rest in
-    simp (ne_eqb _ _ o.0.0.0.1, ne_eqb _ _ o.0.0.1, ne_eqb _ _ o.0.1, ne_eqb _ _ o.1)
+    simp (c.at.ensures, ne_eqb _ _ o.0.0.0.1, ne_eqb _ _ o.0.0.1, ne_eqb _ _ o.0.1, ne_eqb _ _ o.1)

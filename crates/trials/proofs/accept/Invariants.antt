@@ -1,9 +1,9 @@
-use Prim.Native.Nat.{◌-◌}
+use mathlib.Core.Path.{◌≡◌}
 use Rattle.trials.proofs.Accepting.{Accepting}
 use Rattle.trials.proofs.accept.Given as goal
 
 abbrev pub invariant-loop-i : goal.invariant-loop-i
-invariant-loop-i l = Accepting l.count l.initial.places l.initial.keys l.changed l.fresh l.changes l.from l.places l.keys l.behind l.entries l.i
-
-abbrev pub decreases-loop-i : goal.decreases-loop-i
-decreases-loop-i l = l.i
+invariant-loop-i l = record {
+  on : Accepting l.initial.plan.totals.count l.initial.plan.places l.initial.plan.keys l.changes.places l.changes.keys l.count l.from l.plan.places l.plan.keys l.behind l.plan.totals.count l.i;
+  same_cycles : l.plan.totals.cycles ≡ l.initial.plan.totals.cycles;
+}

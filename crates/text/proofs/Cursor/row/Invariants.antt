@@ -1,13 +1,9 @@
-use Rattle.std.proofs.Common.{◌≡◌, ◌-◌, ◌≤◌, length, take}
+use Rattle.std.proofs.Common.{◌≡◌, ◌-◌, length, take}
 use Rattle.text.specs.Fields.{row_at}
-use Rattle.text.proofs.Told.{row_with}
+use Rattle.text.proofs.Told.{so_far}
 use Rattle.text.proofs.Cursor.row.Given as goal
 
-abbrev pub invariant-loop-filled : goal.invariant-loop-filled
-invariant-loop-filled l = (l.filled ≤ length l.numbers)
-    × (length l.numbers ≡ length l.initial.numbers)
-    × (l.place.line ≡ l.self.line)
-    × (row_at (length l.initial.numbers) l.text l.self ≡ row_with l.self (take l.filled l.numbers) (row_at (length l.numbers - l.filled) l.text l.place))
-
-abbrev pub decreases-loop-filled : goal.decreases-loop-filled
-decreases-loop-filled l = length l.numbers - l.filled
+abbrev pub invariant-loop-before : goal.invariant-loop-before
+invariant-loop-before l =
+    row_at (length l.initial.numbers) l.text l.self
+    ≡ so_far l.self (take l.before l.numbers) (length l.initial.numbers - l.before) l.text l.place
