@@ -24,7 +24,7 @@ pub fn list_refusal(refused: Refused, out: &mut [u8]) -> Result<usize, Refused>
 
 // Reads the table that a text is planned as: the one that it holds, and in its T the budget beside the text, where there is one. Or
 // else the text's own refusal, and then that of the budget. The table is put into a lent one, since an answer that holds it is copied in
-// each function that hands it on, and those copies were a third of a listing's stack.
+// each function that hands it on, and those copies were a fifth of a listing's stack.
 #[inline(never)]
 pub fn read_with(table: &mut Table, text: &[u8], beside: Option<u64>) -> Result<(), Refused>
     ensures { ReadInto beside text.now table.new result }

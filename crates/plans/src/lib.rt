@@ -57,7 +57,7 @@ fn note_turn(
 }
 
 // Step 5, "Turns": the jobs at these places, each in its turn, from the empty plan. A job's fate is put where steps 1 and 2 left
-// none, and the turn is noted.
+// none, and the turn is noted. (What steps 1 to 4 made are columns by themselves, which the promise names one by one.)
 fn take_turns(
     plan: &mut Plan,
     fates: &mut [Option<Fate>; MOST_JOBS],
@@ -114,7 +114,7 @@ fn mark_planned(fates: &mut [Option<Fate>; MOST_JOBS], places: &[u64])
 }
 
 // Steps 3 to 7, of what steps 1 and 2 leave: the ratios of the chains, the turns in their order, and the turns taken, noted as
-// `take_turns` notes them. How many turns there were.
+// `take_turns` notes them. How many turns there were. (The two buffers are the caller's, each by itself, as the panel's call has them.)
 fn run_turns(
     plan: &mut Plan,
     fates: &mut [Option<Fate>; MOST_JOBS],
@@ -151,7 +151,7 @@ fn run_turns(
 }
 
 // Steps 1 to 7: who is taken out, and the course of all turns of those that are left, noted as `take_turns` notes it. How many
-// turns there were. The plan and the fates come in as they may.
+// turns there were. The plan and the fates come in as they may. (The buffers as at `run_turns`.)
 pub fn course_of(
     plan: &mut Plan,
     fates: &mut [Option<Fate>; MOST_JOBS],
@@ -214,7 +214,7 @@ pub fn terms_of(table: &Table, budget: u64) -> Terms
 }
 
 // Steps 1 to 9 on a valid table, with the budget beside it and its jobs in columns. The turns are noted as the course of turns notes
-// them. The plan and the fates come in as they may.
+// them. The plan and the fates come in as they may. (The buffers as at `run_turns`.)
 pub fn decide(
     plan: &mut Plan,
     fates: &mut [Option<Fate>; MOST_JOBS],

@@ -208,7 +208,7 @@ fn renew_latests(
 
 // Steps 6 and 7 for the job at this place, which is not in the plan: its trial is accepted, or dropped with fate 5 or 6. "A dropped
 // trial leaves plan and keys as they stood": it touches nothing but `changes`, which are lent, whatever they hold, since arrays here
-// would be filled for each turn.
+// would be filled for each turn. (The columns that steps 1 to 4 made are lent one by one, as the promise names them.)
 fn try_trial(
     plan: &mut Plan,
     kept: &mut Kept,
@@ -252,6 +252,7 @@ fn try_trial(
 }
 
 // Steps 5 to 7 for the job at this place: "A job already in the plan is passed over. Ratio 0 gives fate 4"; else its trial decides.
+// (The columns as at `try_trial`.)
 pub fn turn(
     plan: &mut Plan,
     kept: &mut Kept,
