@@ -15,7 +15,7 @@
  *   where the length is 0: any address will do then, as that of a local variable.
  * - A buffer is at most PTRDIFF_MAX bytes long, all of its places may be read, and those of a buffer that is not const may
  *   be written; it holds something (set it to 0, say) before it is lent. No two buffers of a call overlap.
- * - There are 16,000 bytes of stack left: measured, not proved. The most, some 15,900, is what the two calls that list take;
+ * - There are 16,000 bytes of stack left: measured, not proved. The most, some 15,100, is what the two calls that list take;
  *   the others take some 13,000 at most, a table that is handed over counted in.
  *
  * What the archive needs:

@@ -9,13 +9,12 @@ ghost use Rattle.chains.specs.Promises.{LeavesRing, PlaceOf, Rather, WaitsFor, W
 ghost use Rattle.chains.specs.Waits.{most_resources};
 ghost use Rattle.columns.specs.Columns.{AtMost};
 ghost use Rattle.columns.specs.Ranges.{TermsInRange};
-ghost use Rattle.rules.specs.Answers.{fates_as_numbers};
 ghost use Rattle.rules.specs.Plan.{ends_by};
 ghost use Rattle.rules.specs.TableText.{most_cycles, most_holds, most_jobs, most_mhz, most_time, most_worth};
 ghost use Rattle.steps.specs.Deadlines.{cycles_by};
 
 use columns::{Columns, Terms, look_up};
-use rules::{Fate, Hold, MOST_HOLDS, MOST_JOBS};
+use rules::{Hold, MOST_HOLDS, MOST_JOBS};
 use std::cmp::Ordering;
 
 // The resources, from 0, which no H line names.
@@ -24,6 +23,9 @@ pub const RESOURCES: usize = 33;
 // The place of nobody. A number, and no `Option`: whom a job waits for is an index, and an index that may be missing would need its
 // bound in every contract that reads the column (tried).
 pub const NOBODY: u64 = MOST_JOBS as u64;
+
+// What stands in a column of fates for a job that has none yet; else it is the fate's number.
+pub const NO_FATE: u64 = 0;
 
 // Step 1, "now + its run time at top speed > termination", multiplied out.
 pub fn late(clock: u64, mhz: u64, cycles: u64, termination: u64) -> bool
@@ -57,14 +59,14 @@ pub fn holders(holder_at: &mut [u64; RESOURCES], holds: &[Hold], numbers: &[u64]
 pub fn waits_for(
     requests: &[u64; MOST_JOBS],
     holder_at: &[u64; RESOURCES],
-    fates: &[Option<Fate>; MOST_JOBS],
+    fates: &[u64; MOST_JOBS],
     place: usize,
 ) -> u64
     requires { (place < most_jobs) × AtMost most_holds requests.now }
-    ensures { WaitsFor place requests.now holder_at.now (fates_as_numbers fates.now) result }
+    ensures { WaitsFor place requests.now holder_at.now fates.now result }
 {
     let holder = holder_at[requests[place] as usize];
-    if NOBODY <= holder || fates[holder as usize].is_some() {
+    if NOBODY <= holder || fates[holder as usize] != NO_FATE {
         return NOBODY;
     }
     holder

@@ -10,6 +10,7 @@ use native.Mathlib.Omega.{arith}
 use borrow.Author.Tests.{ltb-true}
 use lib.ListN.{length, replicate, set, take}
 use Rattle.std.proofs.lemmas.List.{take_more}
+use Rattle.std.specs.Prelude.{map}
 use lib.Seq.{get_or-append_seam, take-append-add, take-append_seam}
 use Rattle.columns.proofs.Stored.{Filled, nothing_filled, one_more_filled}
 use Rattle.grammar.proofs.Stopped.{Faultless, accepted_exactly}
@@ -150,7 +151,12 @@ column_after f b (Record.H h) c room filled = filled
 
 module _ {t : Table} {before : Standing} {line : ℕ} (so_far : SoFar t before line) where
   pub noted : Noted so_far.stands before (take before.jobs t.jobs)
-  noted = record { state = so_far.state; rising = so_far.rising; same_jobs = so_far.jobs }
+  noted = record {
+    state = so_far.state;
+    rising = so_far.rising;
+    numbers = ap (map (λ (j : Job). j.number)) so_far.jobs;
+    requests = ap (map (λ (j : Job). j.request)) so_far.jobs;
+  }
 
   -- what comes next is refused, or nothing comes
   pub bad_next : (why : Refusal) (rest : List Item) → left t before ≡ bad why ∷ rest → check t ≡ refused_at why line

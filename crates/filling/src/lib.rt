@@ -3,10 +3,9 @@
 
 ghost use Rattle.std.specs.Prelude.{map, ◌≡◌, ◌≤◌, get_or, length, set, take};
 ghost use Rattle.columns.specs.Columns.{AllBelow};
-ghost use Rattle.rules.specs.Answers.{fate_as_number, fates_as_numbers};
 ghost use Rattle.rules.specs.TableText.{most_jobs, padded};
 
-use rules::{Fate, MOST_JOBS};
+use rules::MOST_JOBS;
 
 // A number stored at a place, where there is that place.
 pub fn note(part: &mut [u64], at: usize, number: u64)
@@ -55,12 +54,11 @@ pub fn put_order(order: &mut [u64], places: &[u64], number: &[u64; MOST_JOBS])
 }
 
 // "Fate places follow the J lines; places after the last hold 0."
-pub fn put_fates(out: &mut [u64], fates: &[Option<Fate>])
+pub fn put_fates(out: &mut [u64], fates: &[u64])
     requires { length fates.now ≤ length out.old }
-    ensures { out.new ≡ padded (length out.old) 0 (fates_as_numbers fates.now) }
+    ensures { out.new ≡ padded (length out.old) 0 fates.now }
 {
-    for (place, fate) in fates.iter().enumerate() {
-        out[place] = fate.map_or(0, u64::from);
-    }
-    clear_behind(out, fates.len());
+    let count = fates.len();
+    out[..count].copy_from_slice(fates);
+    clear_behind(out, count);
 }

@@ -37,7 +37,7 @@ use Rattle.front.specs.declared.Kind.{Kind}
 -- before line 1 nothing is noted
 pub nothing_noted : Noted nothing none_standing []
 unfolding nothing
-nothing_noted = record { state = refl; rising = no_element; same_jobs = refl }
+nothing_noted = record { state = refl; rising = no_element; numbers = refl; requests = refl }
 
 -- "One T, as line 1": no other record may stand there, so what is accepted has no F, no J and no H
 pub record ClockAlone (r : Records) : Type 0 where

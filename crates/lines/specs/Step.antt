@@ -1,5 +1,5 @@
 -- What the reader's step over one line promises: the rules' `accept`.
-use Rattle.std.specs.Prelude.{Result, Ok, Err, ◌≡◌, List, ℕ, ◌≤◌, length, drop}
+use Rattle.std.specs.Prelude.{Result, Ok, Err, ◌≡◌, List, ℕ, ◌≤◌, length, drop, map}
 use Rattle.std.proofs.Math.Option.{Option, some}
 use Rattle.grammar.specs.FirstLine.{first_item, rest_of}
 use Rattle.records.specs.Standing.{after_clock, after_hold, after_job, after_speed, standing_of}
@@ -15,11 +15,13 @@ use Rattle.text.specs.declared.Cursor.{Cursor}
 use Rattle.text.specs.declared.Line.{Line}
 use Rattle.text.specs.declared.Parsed.{Parsed}
 
--- What the reader notes of the lines accepted so far: the small state, and the jobs. Their numbers rise.
+-- What the reader notes of the lines accepted so far: the small state, and jobs with the numbers and the requests of those accepted;
+-- nothing else of them is asked. The numbers rise.
 pub record Noted (b : Before) (before : Standing) (jobs : List Job) : Type 0 where
   pub state : before ≡ standing_of b
   pub rising : Rising (λ (j : Job). j.number) b.records.jobs
-  pub same_jobs : jobs ≡ b.records.jobs
+  pub numbers : map (λ (j : Job). j.number) jobs ≡ map (λ (j : Job). j.number) b.records.jobs
+  pub requests : map (λ (j : Job). j.request) jobs ≡ map (λ (j : Job). j.request) b.records.jobs
 
 -- the lowest refusal of an item
 abbrev pub fault_in : Before → Item → Option Refusal

@@ -1,43 +1,33 @@
 -- The lines of the numbers told of what was decided are those of the table's plan. Assumes nothing.
 use mathlib.Core.List.{List}
 use mathlib.Core.Path.{◌≡◌, sym, ap, ◌∙◌}
-use Prim.Native.Nat.{ℕ, ◌<◌}
+use Prim.Native.Nat.{ℕ}
 use native.Mathlib.Omega.{arith}
-use lib.ListN.{get_or, length, take}
+use lib.ListN.{length, take}
 use lib.Seq.{get_or-take, length-take-le}
-use Rattle.std.specs.Prelude.{None, Option}
 use Rattle.columns.proofs.Entries.{length_jobs_at}
 use Rattle.columns.proofs.Ranges.{columns_in_range}
 use Rattle.columns.specs.Columns.{ColumnsOf}
 use Rattle.columns.specs.declared.Columns.{Columns}
 use Rattle.grammar.proofs.Ranges.{clock_ranges}
-use Rattle.laws.proofs.Fates.{as_many, number_at}
 use Rattle.listing.specs.Promises.{FateRows, Finishable, OrderRows}
 use Rattle.listing.specs.Texts.{plan_text, rows_lines}
 use Rattle.listing.specs.declared.PlanLines.{PlanLines}
 use Rattle.plans.specs.Promises.{DecidedAs}
 use Rattle.plans.specs.declared.Decided.{Decided}
-use Rattle.rules.specs.Answers.{fate_as_number, fates_as_numbers}
 use Rattle.rules.specs.Listing.{fate_line, letter_o, letter_x, lines_for, order_line, plan_line, plan_lines, unplanned}
 use Rattle.rules.specs.Lists.{joined, keep}
 use Rattle.rules.specs.Plan.{course_of, fate_in, plan_from, plan_of, runs_of}
 use Rattle.rules.specs.Refusals.{taken}
 use Rattle.rules.specs.TableText.{Records}
 use Rattle.rules.specs.Valid.{Valid}
-use Rattle.rules.specs.declared.Fate.{Fate}
 use Rattle.rules.specs.declared.Speed.{Speed}
 use Rattle.steps.proofs.Speeds.{plan_speed_in_range}
 use Rattle.trials.specs.Promises.{planned_places}
 use Rattle.trials.specs.declared.Plan.{Plan}
 
--- the fates of the first so many
-pub fate_of_first : (fates : List (Option Fate)) (n i : ℕ) → i < n
-    → get_or (fates_as_numbers (take n fates)) i 0 ≡ get_or (fates_as_numbers fates) i 0
-fate_of_first fates n i h =
-    number_at (take n fates) i ∙ ap fate_as_number (get_or-take n fates i None h) ∙ sym (number_at fates i)
-
-module _ (t : Records) (v : Valid t) (p : Plan) (fates : List (Option Fate)) (d : Decided)
-    (decided : DecidedAs t p (fates_as_numbers fates) d) (jobs : Columns) (of : ColumnsOf t.jobs jobs) where
+module _ (t : Records) (v : Valid t) (p : Plan) (fates : List ℕ) (d : Decided)
+    (decided : DecidedAs t p fates d) (jobs : Columns) (of : ColumnsOf t.jobs jobs) where
   mhz-known : d.speed.mhz ≡ (plan_of t).speed.mhz
   mhz-known = ap (λ (f : Speed). f.mhz) decided.speed
 
@@ -67,17 +57,17 @@ module _ (t : Records) (v : Valid t) (p : Plan) (fates : List (Option Fate)) (d 
   orders_told clock order_end orders at_clock o = rw (at_clock, mhz-known, decided.jobs) at (o.lines t.jobs of.number of.cycles)
 
   others_told : (job-count other_end : ℕ) (others : List ℕ) → job-count ≡ length t.jobs → length (take job-count fates) ≡ job-count
-      → FateRows jobs.number (fates_as_numbers (take job-count fates)) others other_end
+      → FateRows jobs.number (take job-count fates) others other_end
       → rows_lines letter_x (take other_end others) ≡ joined fate_line (keep unplanned (plan_of t).fates)
   unfolding plan_of plan_from
   others_told job-count other_end others counted whole f =
-      f.lines t.jobs (fate_in t (course_of t)) (omega (arith, as_many (take job-count fates))) of.number
-      (λ i h. fate_of_first fates job-count i (omega arith) ∙ decided.fates i h)
+      f.lines t.jobs (fate_in t (course_of t)) (omega arith) of.number
+      (λ i h. get_or-take job-count fates i 0 (omega arith) ∙ decided.fates i h)
 
   pub told : (l : PlanLines) (clock job-count order_end other_end : ℕ) (orders others : List ℕ) → clock ≡ t.clock
       → job-count ≡ length t.jobs → length (take job-count fates) ≡ job-count
       → OrderRows (planned_places p) jobs.number jobs.cycles clock d.speed.mhz orders order_end
-      → FateRows jobs.number (fates_as_numbers (take job-count fates)) others other_end
+      → FateRows jobs.number (take job-count fates) others other_end
       → l.speed ≡ d.speed.mhz → l.energy ≡ d.energy → l.count ≡ p.totals.count
       → l.orders.now ≡ take order_end orders → l.others.now ≡ take other_end others
       → plan_text l ≡ lines_for (taken t)

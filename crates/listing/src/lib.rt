@@ -6,12 +6,12 @@ ghost use Rattle.beside.specs.Listed.{Listable, taken_for, wrote};
 ghost use Rattle.grammar.specs.Put.{put};
 ghost use Rattle.listing.specs.Promises.{FateRows, Finishable, OrderRows};
 ghost use Rattle.listing.specs.Texts.{FewRows, plan_text};
-ghost use Rattle.rules.specs.Answers.{fates_as_numbers};
 ghost use Rattle.rules.specs.Listing.{lines_for, listing, listing_with};
 ghost use Rattle.rules.specs.Refusals.{taken, written};
 ghost use Rattle.rules.specs.TableText.{most_jobs, records_of};
 
 use beside::{list_refusal, read_with};
+use chains::NO_FATE;
 use checks::check_table;
 use columns::Columns;
 use plans::decide;
@@ -93,19 +93,16 @@ fn order_rows(
 }
 
 // "X job fate, for each unplanned job in table order": the numbers of these lines, and how many they are.
-fn fate_rows(
-    number: &[u64; MOST_JOBS],
-    fates: &[Option<Fate>],
-    rows: &mut [u64; MOST_ROW_NUMBERS],
-) -> usize
+fn fate_rows(number: &[u64; MOST_JOBS], fates: &[u64], rows: &mut [u64; MOST_ROW_NUMBERS]) -> usize
     requires { length fates.now ≤ most_jobs }
-    ensures { FateRows number.now (fates_as_numbers fates.now) rows.new result }
+    ensures { FateRows number.now fates.now rows.new result }
 {
+    let planned = u64::from(Fate::Planned);
     let mut filled = 0;
     for (place, &fate) in fates.iter().enumerate() {
-        if fate != Some(Fate::Planned) {
+        if fate != planned {
             rows[filled] = number[place];
-            rows[filled + 1] = fate.map_or(0, u64::from);
+            rows[filled + 1] = fate;
             filled += ROW_FIELDS;
         }
     }
@@ -121,7 +118,7 @@ fn list_table(table: &Table, out: &mut [u8]) -> Result<usize, Refused>
     let mut jobs = Columns::new();
     let _ = check_table(&mut jobs, table);
     let mut plan = Plan::empty();
-    let mut fates = [None; MOST_JOBS];
+    let mut fates = [NO_FATE; MOST_JOBS];
     let decided = decide(
         &mut plan,
         &mut fates,

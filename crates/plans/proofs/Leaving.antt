@@ -11,9 +11,6 @@ use Rattle.columns.specs.Columns.{Column, jobs_at}
 use Rattle.steps.proofs.Planned.{fates_alone}
 use Rattle.plans.specs.Promises.{DecidedAs, RoomsNoted, leaves, tells}
 use Rattle.plans.specs.declared.Decided.{Decided}
-use Rattle.laws.proofs.Fates.{as_many}
-use Rattle.rules.specs.Answers.{fate_as_number, fates_as_numbers}
-use Rattle.rules.specs.declared.Fate.{Fate}
 use Rattle.rules.specs.Plan.{course_of, fate_in, fates_of, leaves_plan, numbers_of, plan_from, plan_of}
 use Rattle.rules.specs.Rooms.{TurnRoom, last_room, leaves_rooms, rooms_of}
 use Rattle.rules.specs.TableText.{Records, no_job, padded}
@@ -21,8 +18,7 @@ use Rattle.rules.specs.declared.Decision.{Decision}
 use Rattle.rules.specs.declared.Job.{Job}
 use Rattle.rules.specs.declared.Panel.{Panel}
 use Rattle.rules.specs.declared.Speed.{Speed}
-use Rattle.std.specs.List.{take-map}
-use Rattle.std.specs.Prelude.{Ok, Option}
+use Rattle.std.specs.Prelude.{Ok}
 use Rattle.trials.specs.Promises.{planned_places}
 use Rattle.trials.specs.declared.Plan.{Plan}
 
@@ -54,15 +50,15 @@ same-answer : (t : Records) (d : Decision) (order fates order' fates' : List ℕ
 unfolding leaves_plan
 same-answer t d order fates order' fates' c m e o f = rw (c, m, e, o, f)
 
-module _ {t : Records} (p : Plan) (by_job : List (Option Fate)) (d : Decided) (number : List ℕ)
-    (decided : DecidedAs t p (fates_as_numbers by_job) d)
+module _ {t : Records} (p : Plan) (by_job : List ℕ) (d : Decided) (number : List ℕ)
+    (decided : DecidedAs t p by_job d)
     (of : Column (λ j. j.number) t.jobs number) (job-count : ℕ) (counted : job-count ≡ length t.jobs) where
   pub plan_counted : length (planned_places p) ≡ p.totals.count
   plan_counted = length-take-le p.totals.count p.places (omega (arith, decided.placed.whole, decided.placed.few))
 
   pub buffers_left : length t.jobs ≤ length by_job → (order fates : List ℕ) {order' fates' : List ℕ}
       → order' ≡ padded (length order) 0 (map (λ p. get_or number p 0) (planned_places p))
-      → fates' ≡ padded (length fates) 0 (fates_as_numbers (take job-count by_job))
+      → fates' ≡ padded (length fates) 0 (take job-count by_job)
       → leaves (Ok (record { count = p.totals.count; speed = d.speed.mhz; energy = d.energy })) order' fates'
       ≡ leaves_plan (plan_of t) order fates
   buffers_left there order fates {order' = order'} {fates' = fates'} o f =
@@ -72,9 +68,8 @@ module _ {t : Records} (p : Plan) (by_job : List (Option Fate)) (d : Decided) (n
       (o ∙ ap (padded (length order) 0) (numbers_at t.jobs number of (planned_places p) ∙ ap numbers_of decided.jobs))
       (f
       ∙ ap (padded (length fates) 0)
-      (sym (take-map fate_as_number job-count by_job)
-      ∙ ap (λ n. take n (fates_as_numbers by_job)) counted
-      ∙ front_of_column (fate_in t (course_of t)) t.jobs (fates_as_numbers by_job) (omega (arith, as_many by_job)) decided.fates
+      (ap (λ n. take n by_job) counted
+      ∙ front_of_column (fate_in t (course_of t)) t.jobs by_job there decided.fates
       ∙ sym (fates_planned t)))
 
 -- the panel's answer, part by part

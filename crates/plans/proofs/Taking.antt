@@ -34,7 +34,7 @@ pub record OnCourse (t : Records) (c : Course) (p : Plan) (fates : List ℕ) : T
   pub fates_by_turn : FatesByTurn t c fates
 
 -- the jobs at the plan's places are those of the course, in the order in which they are run
-jobs_run : (t : Records) (c : Course) (p : Plan) → plan_in t.jobs p ≡ c.plan
+pub jobs_run : (t : Records) (c : Course) (p : Plan) → plan_in t.jobs p ≡ c.plan
     → jobs_at t.jobs (planned_places p) ≡ run_order t c.plan
 jobs_run t c p e =
     sym (jobs_of_entries t.jobs p.keys (planned_places p)) ∙ ap jobs_of e ∙ sym (run-order t c.plan)

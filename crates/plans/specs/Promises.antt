@@ -9,6 +9,7 @@ use Rattle.columns.specs.declared.Terms.{Terms}
 use Rattle.laws.specs.Pairs.{among}
 use Rattle.plans.specs.Courses.{FatesByTurn, course_by, job_at, room_by}
 use Rattle.plans.specs.declared.Decided.{Decided}
+use Rattle.ranks.specs.Promises.{RatioColumns, TurnOrder}
 use Rattle.rules.specs.Answers.{decision_says, panel_says}
 use Rattle.rules.specs.Plan.{AfterPlanning, Course, chain_of, course_of, fate_in, fate_planned, in_plan, leaves_plan, plan_of, ratio_of, run_order}
 use Rattle.rules.specs.Rooms.{AfterRooms, TurnRoom, last_room, leaves_rooms, rooms_of}
@@ -89,6 +90,13 @@ pub record LeftOf (t : Records) (fates waits : List ℕ) (jobs : Columns) (terms
   pub terms_of : TermsOf t terms
   pub stage : Stage t fates waits
   pub columns_of : ColumnsOf t.jobs jobs
+
+-- Turns in their order, by ratios of which what the members of the chains give is told, and the chains' cycles are not.
+pub record TurnsOrdered (fates waits : List ℕ) (jobs : Columns) (deadline : List ℕ) (job_count : ℕ) (over turns : List ℕ) (count : ℕ)
+    : Type 0 where
+  pub under : List ℕ
+  pub ratios : RatioColumns fates waits jobs.cycles jobs.worth deadline job_count over under
+  pub ordered : TurnOrder fates jobs.number over under job_count turns count
 
 -- Columns and terms in their ranges, and a table of which steps 1 and 2 leave them.
 pub record LeftRunnable (fates waits : List ℕ) (jobs : Columns) (terms : Terms) : Type 0 where

@@ -5,12 +5,12 @@ ghost use Rattle.std.specs.Prelude.{Ok, ◌≡◌, ◌-◌, ◌*◌, ◌≤◌, 
 ghost use Rattle.columns.specs.Columns.{AllBelow, TermsOf};
 ghost use Rattle.columns.specs.Ranges.{TermsInRange};
 ghost use Rattle.plans.specs.Promises.{Concludable, Concluded, CourseNoted, CourseRun, CourseRunnable, Decidable, Decides, DecisionNoted, LeavesPlanOf, LeavesRoomsOf};
-ghost use Rattle.plans.specs.Promises.{LeftNoted, LeftRun, LeftRunnable, Marked, Plannable, Takeable, TurnNoted, TurnsNoted, TurnsTaken, leaves, tells, terms_by};
-ghost use Rattle.rules.specs.Answers.{fates_as_numbers};
+ghost use Rattle.plans.specs.Promises.{LeftNoted, LeftRun, LeftRunnable, Marked, Plannable, Takeable, TurnNoted, TurnsNoted, TurnsOrdered, TurnsTaken, leaves, tells, terms_by};
+ghost use Rattle.ranks.specs.Promises.{Rankable};
 ghost use Rattle.rules.specs.TableText.{most_jobs, most_speeds, records_of, table_with_budget, with_budget};
 ghost use Rattle.trials.specs.Promises.{columns_read, no_entries};
 
-use chains::{NOBODY, RESOURCES, deadlines, holders};
+use chains::{NO_FATE, NOBODY, RESOURCES, deadlines, holders};
 use columns::{Columns, Terms};
 use filling::{clear_behind, name_order, note, put_fates, put_order};
 use judgements::{Changes, Kept, MOST_CHANGES};
@@ -56,11 +56,11 @@ fn note_turn(
     }
 }
 
-// Step 5, "Turns": the jobs at these places, each in its turn, from the empty plan. A job's fate is put where steps 1 and 2 left
-// none, and the turn is noted. (What steps 1 to 4 made are columns by themselves, which the promise names one by one.)
+// Step 5, "Turns": the jobs at these places, each in its turn, from the empty plan. A job's fate is put over that of steps 1 and 2,
+// which is 0, and the turn is noted. (What steps 1 to 4 made are columns by themselves, which the promise names one by one.)
 fn take_turns(
     plan: &mut Plan,
-    fates: &mut [Option<Fate>; MOST_JOBS],
+    fates: &mut [u64; MOST_JOBS],
     turns: &[u64],
     over: &[u64; MOST_JOBS],
     waits: &[u64; MOST_JOBS],
@@ -70,9 +70,9 @@ fn take_turns(
     order: &mut [u64],
     rooms: &mut [u64],
 )
-    requires { (plan.old ≡ no_entries) × Takeable turns.now over.now (columns_read waits.now jobs.now.critical jobs.now.cycles deadline.now) (fates_as_numbers fates.old) terms }
-    ensures taken { TurnsTaken turns.now over.now (columns_read waits.now jobs.now.critical jobs.now.cycles deadline.now) (fates_as_numbers fates.old) terms plan.new (fates_as_numbers fates.new) }
-    ensures noted { TurnsNoted (length turns.now) turns.now over.now (columns_read waits.now jobs.now.critical jobs.now.cycles deadline.now) (fates_as_numbers fates.old) terms order.old rooms.old order.new rooms.new }
+    requires { (plan.old ≡ no_entries) × Takeable turns.now over.now (columns_read waits.now jobs.now.critical jobs.now.cycles deadline.now) fates.old terms }
+    ensures taken { TurnsTaken turns.now over.now (columns_read waits.now jobs.now.critical jobs.now.cycles deadline.now) fates.old terms plan.new fates.new }
+    ensures noted { TurnsNoted (length turns.now) turns.now over.now (columns_read waits.now jobs.now.critical jobs.now.cycles deadline.now) fates.old terms order.old rooms.old order.new rooms.new }
 {
     let mut kept = Kept {
         ends: [0; MOST_JOBS],
@@ -98,48 +98,67 @@ fn take_turns(
             jobs,
             terms,
         );
-        fates[place] = Some(fate);
+        fates[place] = u64::from(fate);
         note_turn(order, rooms, at, noted, plan.totals, terms);
     }
 }
 
 // Step 8, "Planned is 1, also for a job that came in with another's chain": at each of these places.
-fn mark_planned(fates: &mut [Option<Fate>; MOST_JOBS], places: &[u64])
+fn mark_planned(fates: &mut [u64; MOST_JOBS], places: &[u64])
     requires { AllBelow most_jobs places.now }
-    ensures { Marked places.now (fates_as_numbers fates.old) (fates_as_numbers fates.new) }
+    ensures { Marked places.now fates.old fates.new }
 {
     for &place in places {
-        fates[place as usize] = Some(Fate::Planned);
+        fates[place as usize] = u64::from(Fate::Planned);
     }
+}
+
+// Steps 3 to 5, of what steps 1 and 2 leave: the turns in their order, how many they are, and what the members of each one's chain
+// give. The chains' cycles serve the order alone: no room is kept for them while the turns are taken.
+fn order_turns(
+    turns: &mut [u64; MOST_JOBS],
+    over: &mut [u64; MOST_JOBS],
+    fates: &[u64; MOST_JOBS],
+    waits: &[u64; MOST_JOBS],
+    deadline: &[u64; MOST_JOBS],
+    jobs: &Columns,
+    job_count: usize,
+) -> usize
+    requires { Rankable waits.now jobs.now.cycles jobs.now.worth job_count }
+    ensures { TurnsOrdered fates.now waits.now jobs.now deadline.now job_count over.new turns.new result }
+{
+    let mut ratios = Ratios::new();
+    chain_ratios(&mut ratios, fates, waits, deadline, jobs, job_count);
+    *over = ratios.over;
+    turn_order(turns, fates, &jobs.number, &ratios, job_count)
 }
 
 // Steps 3 to 7, of what steps 1 and 2 leave: the ratios of the chains, the turns in their order, and the turns taken, noted as
 // `take_turns` notes them. How many turns there were. (The two buffers are the caller's, each by itself, as the panel's call has them.)
 fn run_turns(
     plan: &mut Plan,
-    fates: &mut [Option<Fate>; MOST_JOBS],
+    fates: &mut [u64; MOST_JOBS],
     waits: &[u64; MOST_JOBS],
     jobs: &Columns,
     terms: Terms,
     order: &mut [u64],
     rooms: &mut [u64],
 ) -> usize
-    requires { (plan.old ≡ no_entries) × LeftRunnable (fates_as_numbers fates.old) waits.now jobs.now terms }
-    ensures run { LeftRun (fates_as_numbers fates.old) waits.now jobs.now terms plan.new (fates_as_numbers fates.new) }
-    ensures noted { LeftNoted (fates_as_numbers fates.old) waits.now jobs.now terms result order.old rooms.old order.new rooms.new }
+    requires { (plan.old ≡ no_entries) × LeftRunnable fates.old waits.now jobs.now terms }
+    ensures run { LeftRun fates.old waits.now jobs.now terms plan.new fates.new }
+    ensures noted { LeftNoted fates.old waits.now jobs.now terms result order.old rooms.old order.new rooms.new }
 {
     let count = terms.job_count;
     let mut deadline = [0; MOST_JOBS];
     deadlines(&mut deadline, &jobs.termination, terms);
-    let mut ratios = Ratios::new();
-    chain_ratios(&mut ratios, fates, waits, &deadline, jobs, count);
     let mut turns = [0; MOST_JOBS];
-    let turn_count = turn_order(&mut turns, fates, &jobs.number, &ratios, count);
+    let mut over = [0; MOST_JOBS];
+    let turn_count = order_turns(&mut turns, &mut over, fates, waits, &deadline, jobs, count);
     take_turns(
         plan,
         fates,
         &turns[..turn_count],
-        &ratios.over,
+        &over,
         waits,
         &deadline,
         jobs,
@@ -154,7 +173,7 @@ fn run_turns(
 // turns there were. The plan and the fates come in as they may. (The buffers as at `run_turns`.)
 pub fn course_of(
     plan: &mut Plan,
-    fates: &mut [Option<Fate>; MOST_JOBS],
+    fates: &mut [u64; MOST_JOBS],
     holds: &[Hold],
     jobs: &Columns,
     terms: Terms,
@@ -162,7 +181,7 @@ pub fn course_of(
     rooms: &mut [u64],
 ) -> usize
     requires { CourseRunnable holds.now jobs.now terms }
-    ensures run { CourseRun holds.now jobs.now terms plan.new (fates_as_numbers fates.new) }
+    ensures run { CourseRun holds.now jobs.now terms plan.new fates.new }
     ensures noted { CourseNoted holds.now jobs.now terms result order.old rooms.old order.new rooms.new }
 {
     *plan = Plan::empty();
@@ -176,14 +195,14 @@ pub fn course_of(
 // Steps 8 and 9, once all turns are taken, so many.
 fn conclude(
     plan: &Plan,
-    fates: &mut [Option<Fate>; MOST_JOBS],
+    fates: &mut [u64; MOST_JOBS],
     speeds: &[Speed],
     jobs: &Columns,
     terms: Terms,
     turns: usize,
 ) -> Decided
     requires { Concludable speeds.now jobs.now terms plan.now }
-    ensures { Concluded speeds.now jobs.now terms turns plan.now (fates_as_numbers fates.old) (fates_as_numbers fates.new) result }
+    ensures { Concluded speeds.now jobs.now terms turns plan.now fates.old fates.new result }
 {
     let totals = plan.totals;
     let planned = &plan.places[..totals.count];
@@ -217,7 +236,7 @@ pub fn terms_of(table: &Table, budget: u64) -> Terms
 // them. The plan and the fates come in as they may. (The buffers as at `run_turns`.)
 pub fn decide(
     plan: &mut Plan,
-    fates: &mut [Option<Fate>; MOST_JOBS],
+    fates: &mut [u64; MOST_JOBS],
     table: &Table,
     budget: u64,
     jobs: &Columns,
@@ -225,7 +244,7 @@ pub fn decide(
     rooms: &mut [u64],
 ) -> Decided
     requires { Decidable table.now budget jobs.now }
-    ensures decides { Decides table.now budget plan.new (fates_as_numbers fates.new) result }
+    ensures decides { Decides table.now budget plan.new fates.new result }
     ensures noted { DecisionNoted table.now budget result.turns order.old rooms.old order.new rooms.new }
     ensures counted { table.now.job_count ≡ length (records_of (table_with_budget table.now budget)).jobs }
 {
@@ -248,7 +267,7 @@ pub fn plan_table(
     ensures { LeavesPlanOf table.now budget order.old fates.old (leaves (Ok result) order.new fates.new) }
 {
     let mut plan = Plan::empty();
-    let mut by_job = [None; MOST_JOBS];
+    let mut by_job = [NO_FATE; MOST_JOBS];
     let decided = decide(
         &mut plan,
         &mut by_job,
@@ -280,7 +299,7 @@ pub fn rooms_of(
     ensures { LeavesRoomsOf table.now budget turns.old rooms.old (tells (Ok result) turns.new rooms.new) }
 {
     let mut plan = Plan::empty();
-    let mut by_job = [None; MOST_JOBS];
+    let mut by_job = [NO_FATE; MOST_JOBS];
     let decided = decide(&mut plan, &mut by_job, table, budget, jobs, turns, rooms);
     name_order(turns, decided.turns, &jobs.number);
     clear_behind(rooms, decided.turns);

@@ -1,5 +1,5 @@
 mod Trail
 mod SumsBack
-mod Permuted
+mod Runs
 mod Ordered
 pub mod Merged

@@ -8,6 +8,7 @@ use native.Mathlib.Omega.{arith}
 use borrow.Author.Tests.{lt-ltb}
 use lib.ListN.{length, drop, set, replicate, take, length-drop}
 use lib.Seq.{append_snoc, set_at, take-append_seam}
+use Rattle.std.specs.Prelude.{map}
 use Rattle.grammar.proofs.Accepted.{Reachable, clock_read, nothing_read, reached_standing, valid}
 use Rattle.laws.proofs.Elements.{length_more}
 use Rattle.grammar.proofs.Lines.{items, record_rest, rest_shorter}
@@ -78,13 +79,16 @@ one_more_padded places d x xs h =
 -- what is noted of the records: the jobs are those in the table's first places
 pub noted : (text : List ℕ) (table : Table) (before : Standing) (place : Cursor) (so_far : SoFar text table before place)
     → Noted (stands_with before so_far.records) before (take before.jobs table.jobs)
-noted text table before place so_far = record {
-  state = so_far.state;
-  rising = (fits so_far.reached).rising;
-  same_jobs =
-      rw (ap (λ (s : Standing). s.jobs) so_far.state, so_far.in_places)
-      (take-append_seam so_far.records.jobs (replicate (most_jobs - length so_far.records.jobs) no_job));
-}
+noted text table before place so_far =
+    let same : take before.jobs table.jobs ≡ so_far.records.jobs =
+    rw (ap (λ (s : Standing). s.jobs) so_far.state, so_far.in_places)
+    (take-append_seam so_far.records.jobs (replicate (most_jobs - length so_far.records.jobs) no_job)) in
+    record {
+      state = so_far.state;
+      rising = (fits so_far.reached).rising;
+      numbers = ap (map (λ (j : Job). j.number)) same;
+      requests = ap (map (λ (j : Job). j.request)) same;
+    }
 
 module _ (text : List ℕ) (table : Table) (before : Standing) (place : Cursor)
     (so_far : SoFar text table before place) (inside : place.at < length text) (l : Line)

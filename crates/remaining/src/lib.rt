@@ -9,11 +9,10 @@ ghost use Rattle.columns.specs.Ranges.{RunsInRange, TermsInRange};
 ghost use Rattle.remaining.specs.Ends.{EndMarks, is_walked};
 ghost use Rattle.remaining.specs.Promises.{Awaited, LateFates, RingFate, RingFates, Settled};
 ghost use Rattle.remaining.specs.Promises.{Stageable, Staged, WaitsColumn, WalkEnd};
-ghost use Rattle.rules.specs.Answers.{fate_as_number, fates_as_numbers};
 ghost use Rattle.rules.specs.Plan.{ends_by, fate_late};
 ghost use Rattle.rules.specs.TableText.{most_cycles, most_holds, most_jobs, most_worth};
 
-use chains::{RESOURCES, late, leaves_ring, waits_for};
+use chains::{NO_FATE, RESOURCES, late, leaves_ring, waits_for};
 use columns::{Columns, Terms};
 use rules::{Fate, MOST_HOLDS, MOST_JOBS};
 
@@ -39,35 +38,38 @@ impl Mark {
     }
 }
 
-// Step 1, "A job with now + its run time at top speed > termination is taken out (fate 2)": none for one that remains.
-fn fate_if_late(clock: u64, mhz: u64, cycles: u64, termination: u64) -> Option<Fate>
+// Step 1, "A job with now + its run time at top speed > termination is taken out (fate 2)": 0 for one that remains.
+fn fate_if_late(clock: u64, mhz: u64, cycles: u64, termination: u64) -> u64
     requires { Comparable clock mhz cycles termination }
-    ensures { fate_as_number result ≡ cond (not (ends_by clock mhz cycles termination)) fate_late 0 }
+    ensures { result ≡ cond (not (ends_by clock mhz cycles termination)) fate_late 0 }
 {
-    late(clock, mhz, cycles, termination).then_some(Fate::Late)
+    if late(clock, mhz, cycles, termination) {
+        return u64::from(Fate::Late);
+    }
+    NO_FATE
 }
 
 // Step 1, "Late alone": fate 2 at the place of each job that is late.
-fn late_fates(fates: &mut [Option<Fate>; MOST_JOBS], jobs: &Columns, terms: Terms)
+fn late_fates(fates: &mut [u64; MOST_JOBS], jobs: &Columns, terms: Terms)
     requires { RunsInRange jobs.now.cycles jobs.now.termination × TermsInRange terms }
-    ensures { LateFates jobs.now terms (fates_as_numbers fates.new) }
+    ensures { LateFates jobs.now terms fates.new }
 {
     for i in 0..terms.job_count {
         fates[i] = fate_if_late(terms.clock, terms.mhz, jobs.cycles[i], jobs.termination[i]);
     }
 }
 
-// Step 2, "A job waits for the remaining job that holds the resource it requests": for each job, those without a fate
+// Step 2, "A job waits for the remaining job that holds the resource it requests": for each job, those of fate 0
 // remaining.
 fn waits_column(
     waits: &mut [u64; MOST_JOBS],
     request: &[u64; MOST_JOBS],
     holder_at: &[u64; RESOURCES],
-    fates: &[Option<Fate>; MOST_JOBS],
+    fates: &[u64; MOST_JOBS],
     job_count: usize,
 )
     requires { (job_count ≤ most_jobs) × AtMost most_holds request.now }
-    ensures { WaitsColumn request.now holder_at.now (fates_as_numbers fates.now) job_count waits.new }
+    ensures { WaitsColumn request.now holder_at.now fates.now job_count waits.new }
 {
     for i in 0..job_count {
         waits[i] = waits_for(request, holder_at, fates, i);
@@ -135,36 +137,34 @@ fn settle(place: usize, marks: &mut [Mark; MOST_JOBS], waits: &[u64; MOST_JOBS])
 
 // Step 2, "On each ring of waiting jobs, the one .. is taken out (fate 3)": the fate of the job at this place, from the
 // one that step 1 gave it. A job for which nobody waits is on no ring, nor is one whose walk ends.
-fn ring_fate(
-    late: Option<Fate>,
-    mark: Mark,
-    place: usize,
-    waits: &[u64; MOST_JOBS],
-    jobs: &Columns,
-) -> Option<Fate>
+fn ring_fate(late: u64, mark: Mark, place: usize, waits: &[u64; MOST_JOBS], jobs: &Columns) -> u64
     requires { (place < most_jobs) × AtMost most_worth jobs.now.worth × AtMost most_cycles jobs.now.cycles }
-    ensures { RingFate (fate_as_number late) mark place waits.now jobs.now (fate_as_number result) }
+    ensures { RingFate late mark place waits.now jobs.now result }
 {
-    if late.is_some() {
+    if late != NO_FATE {
         return late;
     }
-    match mark {
-        Mark::Unawaited | Mark::Ends => None,
-        Mark::Awaited | Mark::GoesOn => {
-            leaves_ring(place, waits, jobs).then_some(Fate::Deadlock)
-        }
+    if mark == Mark::Unawaited {
+        return NO_FATE;
     }
+    if mark == Mark::Ends {
+        return NO_FATE;
+    }
+    if leaves_ring(place, waits, jobs) {
+        return u64::from(Fate::Deadlock);
+    }
+    NO_FATE
 }
 
 // Step 2, "On each ring": to the fates of step 1, 3 at the place of each job that leaves its ring.
 fn ring_fates(
-    fates: &mut [Option<Fate>; MOST_JOBS],
+    fates: &mut [u64; MOST_JOBS],
     waits: &[u64; MOST_JOBS],
     jobs: &Columns,
     job_count: usize,
 )
     requires { (job_count ≤ most_jobs) × AtMost most_worth jobs.now.worth × AtMost most_cycles jobs.now.cycles }
-    ensures { RingFates (fates_as_numbers fates.old) waits.now jobs.now job_count (fates_as_numbers fates.new) }
+    ensures { RingFates fates.old waits.now jobs.now job_count fates.new }
 {
     let mut marks = [Mark::Unawaited; MOST_JOBS];
     mark_awaited(&mut marks, waits, job_count);
@@ -174,17 +174,17 @@ fn ring_fates(
     }
 }
 
-// Steps 1 and 2: a fate for each job taken out, none for the others, and whom each job waits for among the others. It is looked
+// Steps 1 and 2: a fate for each job taken out, 0 for the others, and whom each job waits for among the others. It is looked
 // up twice: among the timely, to find the rings, and among those that step 2 leaves.
 pub fn take_out(
-    fates: &mut [Option<Fate>; MOST_JOBS],
+    fates: &mut [u64; MOST_JOBS],
     waits: &mut [u64; MOST_JOBS],
     holder_at: &[u64; RESOURCES],
     jobs: &Columns,
     terms: Terms,
 )
     requires { Stageable jobs.now terms }
-    ensures { Staged holder_at.now jobs.now terms (fates_as_numbers fates.new) waits.new }
+    ensures { Staged holder_at.now jobs.now terms fates.new waits.new }
 {
     late_fates(fates, jobs, terms);
     waits_column(waits, &jobs.request, holder_at, fates, terms.job_count);

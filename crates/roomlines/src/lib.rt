@@ -5,16 +5,16 @@ ghost use Rattle.std.specs.Prelude.{◌≡◌, ◌≤◌, length};
 ghost use Rattle.beside.specs.Listed.{Listable, taken_for, wrote};
 ghost use Rattle.digits.specs.Rows.{tab_rows};
 ghost use Rattle.roomlines.specs.Promises.{RoomRows, TurnPlaces, most_row_numbers, row_fields};
-ghost use Rattle.rules.specs.Answers.{fates_as_numbers};
 ghost use Rattle.rules.specs.Refusals.{taken, written};
 ghost use Rattle.rules.specs.Rooms.{room_lines_for, room_listing, room_listing_with};
 ghost use Rattle.rules.specs.TableText.{records_of};
 
 use beside::{list_refusal, read_with};
+use chains::NO_FATE;
 use checks::check_table;
 use columns::Columns;
 use plans::{course_of, terms_of};
-use rules::{Fate, MOST_JOBS, Refusal, Refused, Table};
+use rules::{MOST_JOBS, Refusal, Refused, Table};
 use trials::Plan;
 
 // A line has four numbers, and there is at most one for each job.
@@ -28,20 +28,19 @@ fn room_rows(
     order: &[u64],
     rooms: &[u64; MOST_JOBS],
     number: &[u64; MOST_JOBS],
-    fates: &[Option<Fate>; MOST_JOBS],
+    fates: &[u64; MOST_JOBS],
     rows: &mut [u64; MOST_ROW_NUMBERS],
 ) -> usize
     requires { TurnPlaces order.now }
-    ensures { RoomRows order.now rooms.now number.now (fates_as_numbers fates.now) rows.new result }
+    ensures { RoomRows order.now rooms.now number.now fates.now rows.new result }
 {
     let mut filled = 0;
     for (turn, &noted) in order.iter().enumerate() {
         let place = noted as usize;
-        let fate = fates[place].map_or(0, u64::from);
         rows[filled] = turn as u64 + 1;
         rows[filled + 1] = number[place];
         rows[filled + 2] = rooms[turn];
-        rows[filled + 3] = fate;
+        rows[filled + 3] = fates[place];
         filled += ROW_FIELDS;
     }
     filled
@@ -69,7 +68,7 @@ fn list_table(table: &Table, out: &mut [u8]) -> Result<usize, Refused>
     let terms = terms_of(table, table.budget);
     let holds = &table.holds[..table.hold_count];
     let mut plan = Plan::empty();
-    let mut fates = [None; MOST_JOBS];
+    let mut fates = [NO_FATE; MOST_JOBS];
     let mut order = [0; MOST_JOBS];
     let mut rooms = [0; MOST_JOBS];
     let turns = course_of(

@@ -146,10 +146,10 @@ fn accept(plan: &mut Plan, changes: &Changes, count: usize, from: usize)
     ensures cycles { plan.new.totals.cycles ≡ plan.old.totals.cycles }
 {
     let mut behind = from;
+    let mut entries = plan.totals.count;
     for i in (0..count).rev() {
         let place = changes.places[i] as usize;
         let key = changes.keys[i];
-        let entries = plan.totals.count;
         if plan.keys[place] < NOT_PLANNED {
             behind = move_up(
                 &mut plan.places,
@@ -168,9 +168,10 @@ fn accept(plan: &mut Plan, changes: &Changes, count: usize, from: usize)
                 place,
                 key,
             ) + 1;
-            plan.totals.count += 1;
+            entries += 1;
         }
     }
+    plan.totals.count = entries;
 }
 
 // What is kept of the entries from an index on: the cycles run by their ends.

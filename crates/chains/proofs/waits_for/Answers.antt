@@ -17,9 +17,8 @@ use Rattle.rules.specs.Plan.{asks_for, holder_in, waits_for}
 use Rattle.rules.specs.TableText.{most_holds, most_jobs, no_job}
 use Rattle.rules.specs.declared.Hold.{Hold}
 use Rattle.rules.specs.declared.Job.{Job}
-use Rattle.laws.proofs.Fates.{none_at, some_at}
 use Rattle.chains.proofs.waits_for.Goals as goal
-use Rattle.chains.proofs.waits_for.Goals.{then-holder-ge-NOBODY-via-then-holder-ge-NOBODY, then-holder-ge-NOBODY-via-else-holder-ge-NOBODY+then-is_some}
+use Rattle.chains.proofs.waits_for.Goals.{then-holder-ge-NOBODY-via-then-holder-ge-NOBODY, then-holder-ge-NOBODY-via-else-holder-ge-NOBODY+then-fates-holder-ne-NO_FATE}
 
 module _ (place : ℕ) (requests holder-at fates : List ℕ) (small : get_or requests place 0 ≤ most_holds) where
   abbrev resource : ℕ
@@ -76,12 +75,10 @@ pub returns-then-holder-ge-NOBODY : goal.returns-then-holder-ge-NOBODY
 returns-then-holder-ge-NOBODY c =
     elim c.then-holder-ge-NOBODY.branch [
       | then-holder-ge-NOBODY-via-then-holder-ge-NOBODY w ↦ not-held _ _ _ _ (c.requires.1 c.args.place) w.if-holder-ge-NOBODY.true
-      | then-holder-ge-NOBODY-via-else-holder-ge-NOBODY+then-is_some w ↦
-          held-by-one-taken-out _ _ _ _ (c.requires.1 c.args.place) w.if-holder-ge-NOBODY.false
-          (some_at c.args.fates.now _ (sym w.is_some.ensures ∙ w.if-is_some.true))
+      | then-holder-ge-NOBODY-via-else-holder-ge-NOBODY+then-fates-holder-ne-NO_FATE w ↦
+          held-by-one-taken-out _ _ _ _ (c.requires.1 c.args.place) w.if-holder-ge-NOBODY.false w.if-fates-holder-ne-NO_FATE.true
     ]
 
 pub returns : goal.returns
 returns c =
-    held-by-one-that-remains _ _ _ _ (c.requires.1 c.args.place) c.if-holder-ge-NOBODY.false
-    (none_at c.args.fates.now _ (sym c.is_some.ensures ∙ c.if-is_some.false))
+    held-by-one-that-remains _ _ _ _ (c.requires.1 c.args.place) c.if-holder-ge-NOBODY.false c.if-fates-holder-ne-NO_FATE.false

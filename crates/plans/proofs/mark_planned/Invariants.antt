@@ -2,7 +2,6 @@ use mathlib.Core.Path.{◌≡◌}
 use Prim.Native.Nat.{ℕ}
 use lib.ListN.{drop, length}
 use Rattle.plans.proofs.Marks.{marked_at}
-use Rattle.rules.specs.Answers.{fates_as_numbers}
 use Rattle.rules.specs.Plan.{fate_planned}
 use Rattle.rules.specs.TableText.{most_jobs}
 use Rattle.plans.proofs.mark_planned.Given as goal
@@ -10,6 +9,6 @@ use Rattle.plans.proofs.mark_planned.Given as goal
 abbrev pub invariant-loop-place : goal.invariant-loop-place
 invariant-loop-place l = record {
   whole : length l.fates ≡ most_jobs;
-  marked : (k : ℕ) → marked_at (drop l.place-index l.places) fate_planned (fates_as_numbers l.fates) k
-      ≡ marked_at l.places fate_planned (fates_as_numbers l.initial.fates) k;
+  marked : (k : ℕ) → marked_at (drop l.place-index l.places) fate_planned l.fates k
+      ≡ marked_at l.places fate_planned l.initial.fates k;
 }

@@ -6,12 +6,10 @@ use native.Mathlib.Omega.{arith}
 use borrow.Author.Rules.{rules}
 use lib.ListN.{get_or-replicate, length, length-set}
 use Rattle.entries.specs.Places.{not_planned}
-use Rattle.laws.proofs.Fates.{as_many, number_stored}
 use Rattle.laws.specs.Pairs.{no_pair}
 use Rattle.plans.proofs.Noting.{nothing_noted, one_more_noted}
 use Rattle.plans.proofs.Taking.{OnCourse, at-end, at_start, one_more_taken, room_of_turns, turn-of}
 use Rattle.plans.specs.Promises.{TurnsOf}
-use Rattle.rules.specs.Answers.{fate_as_number}
 use Rattle.rules.specs.TableText.{Records, most_jobs}
 use Rattle.trials.specs.Promises.{PlanStanding, no_entries}
 use Rattle.plans.proofs.take_turns.Goals as goal
@@ -69,15 +67,14 @@ turn-fate-requires c =
     }
 
 pub loop-at-preserved : goal.loop-at-preserved
-unfolding fate_as_number
 loop-at-preserved c =
     let so_far = c.loop-at.invariant in
     let taken = c.turn-fate.ensures in
     let at = c.loop-at.at in
     let on : (t : Records) (of : TurnsOf t _ _ _ _ _) → OnCourse t _ c.turn-fate.new.plan _ = λ t of.
     one_more_taken of at c.loop-at-test.true (so_far.on_course t of)
-    (omega (arith, as_many c.loop-at.fates, so_far.whole, c.requires.1.below at c.loop-at-test.true)) taken in
-    rw number_stored
+    (omega (arith, so_far.whole, c.requires.1.below at c.loop-at-test.true)) taken in
+    rw c.from.ensures
     (record {
       whole = length-set c.loop-at.fates _ _ ∙ so_far.whole;
       standing = taken.standing;

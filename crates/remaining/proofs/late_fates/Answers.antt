@@ -9,8 +9,6 @@ use Rattle.columns.specs.Columns.{RunsOf, TermsOf}
 use Rattle.columns.specs.declared.Columns.{Columns}
 use Rattle.columns.specs.declared.Terms.{Terms}
 use Rattle.remaining.proofs.FilledTo.{RightBelow, filled_below, one_more_filled}
-use Rattle.laws.proofs.Fates.{number_stored}
-use Rattle.rules.specs.Answers.{fates_as_numbers}
 use Rattle.remaining.specs.Promises.{LateFates}
 use Rattle.rules.specs.Plan.{late_in}
 use Rattle.rules.specs.TableText.{Records, most_jobs, no_job}
@@ -35,11 +33,10 @@ module _ (jobs : Columns) (terms : Terms) where
 pub loop-i-preserved : goal.loop-i-preserved
 loop-i-preserved c =
     let loop = c.loop-i in
-    rw (number_stored loop.fates loop.i c.fate_if_late.result)
-    (one_more_filled _ (fates_as_numbers loop.fates) loop.i _ (omega arith) loop.invariant c.fate_if_late.ensures)
+    one_more_filled _ loop.fates loop.i _ (omega arith) loop.invariant c.fate_if_late.ensures
 
 pub returns : goal.returns
 returns c =
     let loop = c.loop-i in
-    all-late-fates c.args.jobs.now c.args.terms (fates_as_numbers loop.fates) loop.invariant.whole
-    (filled_below _ (fates_as_numbers loop.fates) loop.i c.args.terms.job_count (omega arith) loop.invariant)
+    all-late-fates c.args.jobs.now c.args.terms loop.fates loop.invariant.whole
+    (filled_below _ loop.fates loop.i c.args.terms.job_count (omega arith) loop.invariant)

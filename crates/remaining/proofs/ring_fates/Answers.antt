@@ -1,7 +1,7 @@
 -- `remaining::ring_fates` meets its contract. At the place of each job passed stands the fate that step 2 leaves it, and at
 -- each later place still that of step 1; the marks tell who is awaited, and of whom it is known that his walk ends. Assumes nothing.
 use mathlib.Core.List.{List}
-use mathlib.Core.Path.{◌≡◌, sym, ◌∙◌}
+use mathlib.Core.Path.{◌≡◌, ◌∙◌}
 use Prim.Native.Nat.{ℕ, ◌+◌, ◌<◌}
 use native.Mathlib.Omega.{arith}
 use lib.ListN.{get_or, length, set}
@@ -10,11 +10,8 @@ use Rattle.remaining.proofs.FilledTo.{RightBelow, filled_below, one_more_filled}
 use Rattle.remaining.proofs.Settling.{still_awaited}
 use Rattle.remaining.specs.Promises.{Awaited, RingFate, RingFates}
 use Rattle.columns.specs.declared.Columns.{Columns}
-use Rattle.laws.proofs.Fates.{number_at, number_stored}
 use Rattle.remaining.specs.Ends.{mark_at}
 use Rattle.remaining.specs.declared.Mark.{Mark}
-use Rattle.rules.specs.Answers.{fate_as_number, fates_as_numbers}
-use Rattle.std.specs.Prelude.{None}
 use Rattle.rules.specs.TableText.{most_jobs}
 use Rattle.remaining.proofs.ring_fates.Invariants.{FateAt, StillLate}
 use Rattle.remaining.proofs.ring_fates.Goals as goal
@@ -44,20 +41,17 @@ module _ (late waits : List ℕ) (jobs : Columns) (count : ℕ) where
 pub loop-i-preserved : goal.loop-i-preserved
 loop-i-preserved c =
     let loop = c.loop-i in
-    let late = fates_as_numbers c.args.fates.now in
-    let so-far = fates_as_numbers loop.fates in
-    let marked = still_awaited c.args.waits.now c.args.job_count loop.marks c.settle.new.marks loop.invariant.2 c.settle.ensures in
-    let own : fate_as_number (get_or loop.fates loop.i None) ≡ get_or late loop.i 0 =
-    sym (number_at loop.fates loop.i) ∙ loop.invariant.1 loop.i (omega arith) in
-    rw (number_stored loop.fates loop.i c.ring_fate.result) (
-      one_more_filled _ so-far loop.i _ (omega arith) loop.invariant.0
-          (fate-by-mark late _ _ _ c.settle.new.marks loop.i _ (omega arith) marked (rw own at c.ring_fate.ensures)),
-      late-stay late loop.i _ so-far loop.invariant.1,
+    let late = c.args.fates.now in
+    let marked = still_awaited c.args.waits.now c.args.job_count loop.marks c.settle.new.marks loop.invariant.2 c.settle.ensures in (
+      one_more_filled _ loop.fates loop.i _ (omega arith) loop.invariant.0
+          (fate-by-mark late _ _ _ c.settle.new.marks loop.i _ (omega arith) marked
+          (rw (loop.invariant.1 loop.i (omega arith)) at c.ring_fate.ensures)),
+      late-stay late loop.i _ loop.fates loop.invariant.1,
       marked,
     )
 
 pub returns : goal.returns
 returns c =
     let loop = c.loop-i in
-    all-ring-fates _ _ _ _ (fates_as_numbers loop.fates) loop.invariant.0.whole
-    (filled_below _ (fates_as_numbers loop.fates) loop.i c.args.job_count (omega arith) loop.invariant.0)
+    all-ring-fates _ _ _ _ loop.fates loop.invariant.0.whole
+    (filled_below _ loop.fates loop.i c.args.job_count (omega arith) loop.invariant.0)

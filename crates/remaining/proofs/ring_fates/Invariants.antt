@@ -10,7 +10,6 @@ use Rattle.columns.specs.Columns.{Column}
 use Rattle.columns.specs.declared.Columns.{Columns}
 use Rattle.remaining.proofs.FilledTo.{FilledTo}
 use Rattle.remaining.specs.Promises.{Awaited}
-use Rattle.rules.specs.Answers.{fates_as_numbers}
 use Rattle.rules.specs.Lists.{Rising}
 use Rattle.rules.specs.Plan.{awaited, fate_deadlock, leaves_ring}
 use Rattle.rules.specs.TableText.{Records, no_job}
@@ -33,6 +32,6 @@ StillLate late i fates = (place : ℕ) → i ≤ place → get_or fates place 0 
 
 abbrev pub invariant-loop-i : goal.invariant-loop-i
 invariant-loop-i l =
-    FilledTo (FateAt (fates_as_numbers l.initial.fates) l.waits l.jobs l.job_count) l.i (fates_as_numbers l.fates)
-    × StillLate (fates_as_numbers l.initial.fates) l.i (fates_as_numbers l.fates)
+    FilledTo (FateAt l.initial.fates l.waits l.jobs l.job_count) l.i l.fates
+    × StillLate l.initial.fates l.i l.fates
     × Awaited l.waits l.job_count l.marks

@@ -2,7 +2,6 @@ use mathlib.Core.List.{List}
 use Prim.Native.Nat.{ℕ}
 use Rattle.chains.specs.Promises.{WaitsFor}
 use Rattle.remaining.proofs.FilledTo.{FilledTo}
-use Rattle.rules.specs.Answers.{fates_as_numbers}
 use Rattle.remaining.proofs.waits_column.Given as goal
 
 -- whom the job at a place waits for
@@ -10,4 +9,4 @@ abbrev pub WaitsAt : List ℕ → List ℕ → List ℕ → ℕ → ℕ → Type
 WaitsAt request holder-at fates place holder = WaitsFor place request holder-at fates holder
 
 abbrev pub invariant-loop-i : goal.invariant-loop-i
-invariant-loop-i l = FilledTo (WaitsAt l.request l.holder_at (fates_as_numbers l.fates)) l.i l.waits
+invariant-loop-i l = FilledTo (WaitsAt l.request l.holder_at l.fates) l.i l.waits

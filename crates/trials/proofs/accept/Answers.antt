@@ -12,7 +12,7 @@ on : (c : In-loop-i)
     → let p = c.args.plan.now in
     let loop = c.loop-i in
     Accepting p.totals.count p.places p.keys c.args.changes.now.places c.args.changes.now.keys c.args.count c.args.from
-    loop.plan.places loop.plan.keys loop.behind loop.plan.totals.count (suc (loop.i - 1))
+    loop.plan.places loop.plan.keys loop.behind loop.entries (suc (loop.i - 1))
 on c = let one : suc (c.loop-i.i - 1) ≡ c.loop-i.i = omega arith in rw one c.loop-i.invariant.on
 
 pub loop-i-init : goal.loop-i-init
