@@ -76,13 +76,18 @@ one_more_padded places d x xs h =
     (set_at xs d (replicate (places - (length xs + 1)) d) x (length xs) refl
     ∙ rw (length_more xs x, append_snoc xs x (replicate (places - (length xs + 1)) d)))
 
--- what is noted of the records: the jobs are those in the table's first places
+-- the jobs in the table's first places are those of the records
+pub same_jobs : (text : List ℕ) (table : Table) (before : Standing) (place : Cursor) (so_far : SoFar text table before place)
+    → take before.jobs table.jobs ≡ so_far.records.jobs
+same_jobs text table before place so_far =
+    rw (ap (λ (s : Standing). s.jobs) so_far.state, so_far.in_places)
+    (take-append_seam so_far.records.jobs (replicate (most_jobs - length so_far.records.jobs) no_job))
+
+-- what is noted of them: their numbers and requests, and the state
 pub noted : (text : List ℕ) (table : Table) (before : Standing) (place : Cursor) (so_far : SoFar text table before place)
     → Noted (stands_with before so_far.records) before (take before.jobs table.jobs)
 noted text table before place so_far =
-    let same : take before.jobs table.jobs ≡ so_far.records.jobs =
-    rw (ap (λ (s : Standing). s.jobs) so_far.state, so_far.in_places)
-    (take-append_seam so_far.records.jobs (replicate (most_jobs - length so_far.records.jobs) no_job)) in
+    let same = same_jobs text table before place so_far in
     record {
       state = so_far.state;
       rising = (fits so_far.reached).rising;
